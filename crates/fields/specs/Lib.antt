@@ -1,0 +1,4 @@
+pub mod Primes
+pub mod Fields
+pub mod Modular
+pub mod Scalars

@@ -1,0 +1,9 @@
+// Fields: scalars modulo a prime, and the interface that splitting a challenge stands on.
+mod field;
+mod modular;
+mod order;
+mod scalar;
+
+pub use field::Field;
+pub use order::Scalars;
+pub use scalar::Scalar;
