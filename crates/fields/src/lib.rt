@@ -3,7 +3,10 @@ mod field;
 mod modular;
 mod order;
 mod scalar;
+mod scalars;
 
 pub use field::Field;
 pub use order::Scalars;
 pub use scalar::Scalar;
+pub use scalars::ScalarsField;
+pub use scalars::is_prime;
