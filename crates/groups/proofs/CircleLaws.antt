@@ -99,7 +99,7 @@ module _ (p : ℕ) (wide : 1 < p) where
 
   pub circle-monoid : MonoidLaws (circle-modulo p)
   circle-monoid = record {
-    one-in = and-i (ltb 1 p) (ltb 0 p) (lt→ltb 1 p wide) (lt→ltb 0 p pos);
+    one-in = λ _ _. and-i (ltb 1 p) (ltb 0 p) (lt→ltb 1 p wide) (lt→ltb 0 p pos);
     times-in = λ x y _ _. product-inside x y;
     assoc = λ x y z hx hy _. associated x y z hx hy;
     comm = λ x y hx hy. plain x y (below-le x hx) ∙ ap reduced (commuted x y) ∙ sym (plain y x (below-le y hy));

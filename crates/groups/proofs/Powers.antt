@@ -1,4 +1,4 @@
--- What the laws of a group give of its powers. Assumes nothing.
+-- Powers in a commutative monoid: sums in the exponent, and the turns of square and multiply.
 use mathlib.Core.Path.{_≡_, refl, sym, ap, subst, _∙_}
 use Prim.Native.Nat.{ℕ, zero, suc, _+_, _*_, _/_, _%_, _<_}
 use native.Mathlib.Nat.{zero-add, suc-add, add-suc, add-zero}
@@ -9,11 +9,11 @@ use Rattle.groups.specs.Monoids.{MonoidModel, MonoidLaws, power}
 module _ {E : Type 0} {m : MonoidModel E} (laws : MonoidLaws m) where
   pub power-in : (x : E) (k : ℕ) → T (m .member x) → T (m .member (power m x k))
   unfolding power
-  power-in x zero h = laws .one-in
+  power-in x zero h = laws .one-in x h
   power-in x (suc k) h = laws .times-in x (power m x k) h (power-in x k h)
 
   pub one-right : (x : E) → T (m .member x) → m .times x (m .one) ≡ x
-  one-right x h = laws .comm x (m .one) h (laws .one-in) ∙ laws .one-left x h
+  one-right x h = laws .comm x (m .one) h (laws .one-in x h) ∙ laws .one-left x h
 
   pub power-suc : (x : E) (k : ℕ) → power m x (suc k) ≡ m .times x (power m x k)
   unfolding power

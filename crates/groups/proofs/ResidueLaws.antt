@@ -21,7 +21,7 @@ use Rattle.groups.proofs.Listing.{Numbers, numbers}
 
 pub residues-laws : (p : ℕ) → 1 < p → MonoidLaws (residues-modulo p)
 residues-laws p wide = record {
-  one-in = lt→ltb 1 p wide;
+  one-in = λ _ _. lt→ltb 1 p wide;
   times-in = λ x y _ _. lt→ltb (x .0 * y .0 % p) p (mod-lt (x .0 * y .0) (omega arith));
   assoc = λ x y z _ _ _. ap residue (mod-mul-mod (x .0 * y .0) (z .0) p ∙ ap (λ n. n % p) (mul-assoc (x .0) (y .0) (z .0)) ∙ sym (mul-mod-mod (x .0) (y .0 * z .0) p));
   comm = λ x y _ _. ap (λ n. residue (n % p)) (mul-comm (x .0) (y .0));

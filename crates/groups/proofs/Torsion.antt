@@ -10,13 +10,13 @@ module _ {E : Type 0} {m : MonoidModel E} (laws : MonoidLaws m) where
   abbrev In : E → Type 0
   In x = T (m .member x)
 
-  pub power-one : (k : ℕ) → power m (m .one) k ≡ m .one
+  pub power-one : T (m .member (m .one)) → (k : ℕ) → power m (m .one) k ≡ m .one
   unfolding power
-  power-one zero = refl
-  power-one (suc k) = laws .one-left (power m (m .one) k) (power-in laws (m .one) k (laws .one-in)) ∙ power-one k
+  power-one h zero = refl
+  power-one h (suc k) = laws .one-left (power m (m .one) k) (power-in laws (m .one) k h) ∙ power-one h k
 
   -- (xy)(ab) = (xa)(yb)
-  exchange : (x y a b : E) → In x → In y → In a → In b → m .times (m .times x y) (m .times a b) ≡ m .times (m .times x a) (m .times y b)
+  pub exchange : (x y a b : E) → In x → In y → In a → In b → m .times (m .times x y) (m .times a b) ≡ m .times (m .times x a) (m .times y b)
   exchange x y a b hx hy ha hb =
       let ab = laws .times-in a b ha hb in
       let yb = laws .times-in y b hy hb in
@@ -26,7 +26,7 @@ module _ {E : Type 0} {m : MonoidModel E} (laws : MonoidLaws m) where
 
   pub power-times : (x y : E) (k : ℕ) → In x → In y → power m (m .times x y) k ≡ m .times (power m x k) (power m y k)
   unfolding power
-  power-times x y zero hx hy = sym (laws .one-left (m .one) (laws .one-in))
+  power-times x y zero hx hy = sym (laws .one-left (m .one) (laws .one-in x hx))
   power-times x y (suc k) hx hy =
       ap (m .times (m .times x y)) (power-times x y k hx hy)
       ∙ exchange x y (power m x k) (power m y k) hx hy (power-in laws x k hx) (power-in laws y k hy)
@@ -51,12 +51,12 @@ module _ {E : Type 0} {m : MonoidModel E} (laws : MonoidLaws m) {q : ℕ} {eleme
 
   pub torsion-laws : MonoidLaws (elements m element)
   torsion-laws = record {
-    one-in = t .back (m .one) (laws .one-in) (power-one laws q);
+    one-in = λ x hx. let one = laws .one-in x (t .inside x hx) in t .back (m .one) one (power-one laws one q);
     times-in = λ x y hx hy.
         let ix = t .inside x hx in
         let iy = t .inside y hy in
         t .back (m .times x y) (laws .times-in x y ix iy)
-        (power-times laws x y q ix iy ∙ ap₂ (m .times) (t .turns x hx) (t .turns y hy) ∙ laws .one-left (m .one) (laws .one-in));
+        (power-times laws x y q ix iy ∙ ap₂ (m .times) (t .turns x hx) (t .turns y hy) ∙ laws .one-left (m .one) (laws .one-in x ix));
     assoc = λ x y z hx hy hz. laws .assoc x y z (t .inside x hx) (t .inside y hy) (t .inside z hz);
     comm = λ x y hx hy. laws .comm x y (t .inside x hx) (t .inside y hy);
     one-left = λ x hx. laws .one-left x (t .inside x hx);

@@ -17,7 +17,8 @@ power m x zero = m .one
 power m x (suc k) = m .times x (power m x k)
 
 pub record MonoidLaws {E : Type 0} (m : MonoidModel E) : Type 0 where
-  pub one-in : T (m .member (m .one))
+  -- where there is an element at all, the neutral one is one
+  pub one-in : (x : E) → T (m .member x) → T (m .member (m .one))
   pub times-in : (x y : E) → T (m .member x) → T (m .member y) → T (m .member (m .times x y))
   pub assoc : (x y z : E) → T (m .member x) → T (m .member y) → T (m .member z) → m .times (m .times x y) z ≡ m .times x (m .times y z)
   pub comm : (x y : E) → T (m .member x) → T (m .member y) → m .times x y ≡ m .times y x

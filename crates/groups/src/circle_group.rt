@@ -101,4 +101,8 @@ pub impl Group for CircleGroup as CircleGroupGroup {
             None
         }
     }
+
+    fn known_element(&self, words: (u32, u32)) -> (Residue, Residue) {
+        (Residue::new(words.0), Residue::new(words.1))
+    }
 }

@@ -1,6 +1,8 @@
 // A commutative group of prime order with two bases.
 ghost use mathlib.Core.Path.{_≡_};
 ghost use lib.Dec.{T};
+ghost use Rattle.std.specs.Options.{isSome};
+ghost use Rattle.std.specs.declared.option.Option.the-variants.{Some};
 ghost use Rattle.groups.specs.Groups.{GroupModel, GroupLaws};
 use crate::monoid::Monoid;
 
@@ -25,4 +27,9 @@ pub trait Group: Monoid {
 
     fn from_words(&self, words: (u32, u32)) -> Option<Self::Element>
         ensures { λ r. ⌜ r ≡ group (now (self .entry)) .reads words ⌝ };
+
+    // The element of words that are known to be one: no test is made.
+    fn known_element(&self, words: (u32, u32)) -> Self::Element
+        requires { ⌜ T (isSome (group (now self) .reads words)) ⌝ }
+        ensures { λ r. ⌜ group (now (self .entry)) .reads words ≡ Some r ⌝ };
 }

@@ -94,4 +94,8 @@ pub impl Group for ResidueGroup as ResidueGroupGroup {
             None
         }
     }
+
+    fn known_element(&self, words: (u32, u32)) -> Residue {
+        Residue::new(words.0)
+    }
 }

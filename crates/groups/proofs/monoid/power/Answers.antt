@@ -13,7 +13,7 @@ loop-left-holds g c =
     let m = g .M·Monoid .monoid (c .args .monoid .now) in
     let laws = g .M·Monoid·met .multiplies (c .args .monoid .now) in
     let is = c .neutral-result .ensures in (
-      subst (λ x. T (m .member x)) (sym is) (laws .one-in),
+      subst (λ x. T (m .member x)) (sym is) (laws .one-in _ (c .pre)),
       c .pre,
       ap (λ x. m .times x (power m (c .args .base .now) (c .args .exponent))) is ∙ laws .one-left _ (power-in laws _ _ (c .pre)),
     )
