@@ -5,3 +5,4 @@ pub mod Listing
 pub mod ResidueLaws
 pub mod Quadratic
 pub mod CircleLaws
+pub mod Exponents
