@@ -25,7 +25,7 @@ fn is_one(x: (Residue, Residue)) -> bool
 fn is_element(circle: &Circle, q: u32, x: (Residue, Residue)) -> bool
     ensures { λ r. ⌜ r ≡ «circle-element» q (now (circle .entry) .p) x ⌝ }
 {
-    x.0.value() < circle.p && x.1.value() < circle.p && is_one(power(circle, &x, q))
+    x.0.value() < circle.p && x.1.value() < circle.p && is_one(power(circle, (), &x, q))
 }
 
 fn is_base(circle: &Circle, q: u32, x: (Residue, Residue)) -> bool
@@ -61,16 +61,23 @@ impl CircleGroup {
 }
 
 pub impl Monoid for CircleGroup as CircleGroupMonoid {
+    type Index = ();
+
     type Element = (Residue, Residue);
 
-    ghost monoid = { λ s. «circle-elements» (s .q) (s .p) };
+    ghost monoid = { λ s _. «circle-elements» (s .q) (s .p) };
 
-    fn neutral(&self) -> (Residue, Residue) {
+    fn neutral(&self, _at: ()) -> (Residue, Residue) {
         (Residue::new(1), Residue::new(0))
     }
 
-    fn product(&self, a: &(Residue, Residue), b: &(Residue, Residue)) -> (Residue, Residue) {
-        Circle { p: self.p }.product(a, b)
+    fn product(
+        &self,
+        _at: (),
+        a: &(Residue, Residue),
+        b: &(Residue, Residue),
+    ) -> (Residue, Residue) {
+        Circle { p: self.p }.product((), a, b)
     }
 }
 

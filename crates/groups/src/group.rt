@@ -6,12 +6,12 @@ ghost use Rattle.std.specs.declared.option.Option.the-variants.{Some};
 ghost use Rattle.groups.specs.Groups.{GroupModel, GroupLaws};
 use crate::monoid::Monoid;
 
-pub trait Group: Monoid {
+pub trait Group: Monoid<Index = ()> {
     // what the group is beside its product, as one value
     ghost group: { Self → GroupModel Self·Element };
 
     // what each implementation proves
-    law lawful: { (s : Self) → GroupLaws (Self·Monoid .monoid s) (group s) };
+    law lawful: { (s : Self) → GroupLaws (Self·Monoid .monoid s tt) (group s) };
 
     fn order(&self) -> u32
         ensures { λ r. ⌜ r ≡ group (now (self .entry)) .order ⌝ };

@@ -9,15 +9,17 @@ use crate::monoid::Monoid;
 use crate::residue::Residue;
 
 pub impl Monoid for Residues as ResiduesMonoid {
+    type Index = ();
+
     type Element = Residue;
 
-    ghost monoid = { λ s. «residues-modulo» (s .p) };
+    ghost monoid = { λ s _. «residues-modulo» (s .p) };
 
-    fn neutral(&self) -> Residue {
+    fn neutral(&self, _at: ()) -> Residue {
         Residue::new(1)
     }
 
-    fn product(&self, a: &Residue, b: &Residue) -> Residue {
+    fn product(&self, _at: (), a: &Residue, b: &Residue) -> Residue {
         Residue::new(fields::product_modulo(self.p, a.value(), b.value()))
     }
 }
@@ -31,15 +33,22 @@ fn two_products(p: u32, a: u32, b: u32, c: u32, d: u32) -> u32
 }
 
 pub impl Monoid for Circle as CircleMonoid {
+    type Index = ();
+
     type Element = (Residue, Residue);
 
-    ghost monoid = { λ s. «circle-modulo» (s .p) };
+    ghost monoid = { λ s _. «circle-modulo» (s .p) };
 
-    fn neutral(&self) -> (Residue, Residue) {
+    fn neutral(&self, _at: ()) -> (Residue, Residue) {
         (Residue::new(1), Residue::new(0))
     }
 
-    fn product(&self, x: &(Residue, Residue), y: &(Residue, Residue)) -> (Residue, Residue) {
+    fn product(
+        &self,
+        _at: (),
+        x: &(Residue, Residue),
+        y: &(Residue, Residue),
+    ) -> (Residue, Residue) {
         let (a, b) = (x.0.value(), x.1.value());
         let (c, d) = (y.0.value(), y.1.value());
         let first = two_products(self.p, a, c, self.p - b, d);

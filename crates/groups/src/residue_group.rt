@@ -23,7 +23,7 @@ fn is_element(residues: &Residues, q: u32, y: Residue) -> bool
     if value == 0 || value >= residues.p {
         return false;
     }
-    power(residues, &y, q).value() == 1
+    power(residues, (), &y, q).value() == 1
 }
 
 fn is_base(residues: &Residues, q: u32, y: Residue) -> bool
@@ -54,15 +54,17 @@ impl ResidueGroup {
 }
 
 pub impl Monoid for ResidueGroup as ResidueGroupMonoid {
+    type Index = ();
+
     type Element = Residue;
 
-    ghost monoid = { λ s. «residue-elements» (s .q) (s .p) };
+    ghost monoid = { λ s _. «residue-elements» (s .q) (s .p) };
 
-    fn neutral(&self) -> Residue {
+    fn neutral(&self, _at: ()) -> Residue {
         Residue::new(1)
     }
 
-    fn product(&self, a: &Residue, b: &Residue) -> Residue {
+    fn product(&self, _at: (), a: &Residue, b: &Residue) -> Residue {
         Residue::new(fields::product_modulo(self.p, a.value(), b.value()))
     }
 }

@@ -10,8 +10,8 @@ use Rattle.groups.proofs.monoid.power.Needs.{then-left-eq1, else-left-eq1}
 
 pub loop-left-holds : need.loop-left-holds
 loop-left-holds g c =
-    let m = g .M·Monoid .monoid (c .args .monoid .now) in
-    let laws = g .M·Monoid·met .multiplies (c .args .monoid .now) in
+    let m = g .M·Monoid .monoid (c .args .monoid .now) (c .args .at) in
+    let laws = g .M·Monoid·met .multiplies (c .args .monoid .now) (c .args .at) in
     let is = c .neutral-result .ensures in (
       subst (λ x. T (m .member x)) (sym is) (laws .one-in _ (c .pre)),
       c .pre,
@@ -20,8 +20,8 @@ loop-left-holds g c =
 
 pub loop-left-again : need.loop-left-again
 loop-left-again g c =
-    let m = g .M·Monoid .monoid (c .args .monoid .now) in
-    let laws = g .M·Monoid·met .multiplies (c .args .monoid .now) in
+    let m = g .M·Monoid .monoid (c .args .monoid .now) (c .args .at) in
+    let laws = g .M·Monoid·met .multiplies (c .args .monoid .now) (c .args .at) in
     let inv = c .loop-left .inv in
     let sq = c .product-square .ensures in
     let s = c .loop-left .square in
@@ -51,8 +51,8 @@ loop-left-again g c =
 
 pub returns : need.returns
 returns g c =
-    let m = g .M·Monoid .monoid (c .args .monoid .now) in
-    let laws = g .M·Monoid·met .multiplies (c .args .monoid .now) in
+    let m = g .M·Monoid .monoid (c .args .monoid .now) (c .args .at) in
+    let laws = g .M·Monoid·met .multiplies (c .args .monoid .now) (c .args .at) in
     let inv = c .loop-left .inv in
     let done : c .loop-left .left ≡ 0 = omega arith in
     record { value = sym (ap (m .times (c .loop-left .result)) (ap (power m (c .loop-left .square)) done ∙ power-zero laws (c .loop-left .square)) ∙ one-right laws _ (inv .0)) ∙ inv .2; member = inv .0 }

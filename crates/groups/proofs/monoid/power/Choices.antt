@@ -5,7 +5,7 @@ use Rattle.groups.proofs.monoid.power.Given as given
 
 abbrev pub Inv-loop-left : given.InvT-loop-left
 Inv-loop-left g l =
-    let m = g .M·Monoid .monoid (l .monoid) in
+    let m = g .M·Monoid .monoid (l .monoid) (l .at) in
     T (m .member (l .result)) × T (m .member (l .square)) × (m .times (l .result) (power m (l .square) (l .left)) ≡ power m (l .base) (l .exponent))
 
 abbrev pub μ-loop-left : given.MeasureT-loop-left
