@@ -1,1 +1,4 @@
 pub mod Sets
+pub mod Keys
+pub mod CodedLaws
+pub mod GroupLaws

@@ -1,10 +1,19 @@
 // Sets of leaf kinds.
+mod asked;
+mod coding;
 mod image;
-mod images;
 mod leaf_kinds;
+mod single;
 
+pub use asked::image_power;
+pub use asked::image_product;
+pub use asked::is_key;
+pub use asked::key_image;
+pub use asked::neutral_image;
+pub use asked::power_of_image;
+pub use asked::product_of_images;
 pub use image::Image;
-pub use images::Images;
-pub use images::ImagesMonoid;
-pub use images::image_power;
 pub use leaf_kinds::LeafKinds;
+pub use single::Single;
+pub use single::SingleLeafKinds;
+pub use single::SingleMonoid;
