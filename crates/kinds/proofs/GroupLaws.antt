@@ -16,7 +16,7 @@ use Rattle.groups.proofs.Exponents.{power-sum}
 use Rattle.groups.proofs.Torsion.{exchange}
 use Rattle.kinds.specs.Kinds.{Key, Kind, no-kind, is-key, add-keys, KindLaws, Lawful}
 use Rattle.kinds.specs.Coded.{Coding, coded, alone}
-use Rattle.kinds.specs.GroupKinds.{one-element, paired, two-elements, pairs, single, twin, mixed}
+use Rattle.kinds.specs.GroupKinds.{one-element, paired, two-elements, pairs, single, twin, mixed, single-set, twin-set, mixed-set}
 use Rattle.kinds.specs.declared.image.Image.{Image}
 use Rattle.kinds.proofs.CodedLaws.{CodingLaws, Opening, coded-laws}
 
@@ -100,12 +100,12 @@ module _ {E : Type 0} {m : MonoidModel E} {g : GroupModel E} (laws : MonoidLaws 
       pairs-power m x (g .order)
       ∙ ap₂ (λ (u v : E). (u, v)) (group .ordered (x .0) (and-l (m .member (x .0)) (m .member (x .1)) h)) (group .ordered (x .1) (and-r (m .member (x .0)) (m .member (x .1)) h))
 
-  pub single-laws : KindLaws (g .order) (single m g)
+  single-laws : KindLaws (g .order) (single m g)
   single-laws =
       coded-laws laws one-element-laws (g .order) 1 (λ w. power m (g .base-g) (w .0 .0)) one pos (lit≤ tt) (lit≤ tt) (group .ordered)
       (record { inside = λ w _. g-power-in (w .0 .0); adds = λ v w _ _. g-sum (v .0 .0) (w .0 .0) })
 
-  pub twin-laws : KindLaws (g .order) (twin m g)
+  twin-laws : KindLaws (g .order) (twin m g)
   twin-laws =
       coded-laws pairs-laws two-elements-laws (g .order) 1 (λ w. (power m (g .base-g) (w .0 .0), power m (g .base-h) (w .0 .0)))
       (and-i (m .member (m .one)) (m .member (m .one)) one one) pos (lit≤ tt) (lit≤ tt) pairs-turn
@@ -114,7 +114,7 @@ module _ {E : Type 0} {m : MonoidModel E} {g : GroupModel E} (laws : MonoidLaws 
         adds = λ v w _ _. ap₂ (λ (x y : E). (x, y)) (g-sum (v .0 .0) (w .0 .0)) (h-sum (v .0 .0) (w .0 .0));
       })
 
-  pub mixed-laws : KindLaws (g .order) (mixed m g)
+  mixed-laws : KindLaws (g .order) (mixed m g)
   mixed-laws =
       coded-laws laws one-element-laws (g .order) 2 (λ w. m .times (power m (g .base-g) (w .0 .0)) (power m (g .base-h) (w .1 .0))) one pos (lit≤ tt) (lit≤ tt)
       (group .ordered)
@@ -126,7 +126,7 @@ module _ {E : Type 0} {m : MonoidModel E} {g : GroupModel E} (laws : MonoidLaws 
             (g-power-in (v .0 .0)) (g-power-in (w .0 .0)) (h-power-in (v .1 .0)) (h-power-in (w .1 .0));
       })
 
-  pub alone-lawful : (k : Kind) → KindLaws (g .order) k → Lawful (alone (g .order) k)
+  alone-lawful : (k : Kind) → KindLaws (g .order) k → Lawful (alone (g .order) k)
   alone-lawful k l = record {
     prime = group .prime;
     low = group .low;
@@ -139,3 +139,12 @@ module _ {E : Type 0} {m : MonoidModel E} {g : GroupModel E} (laws : MonoidLaws 
     where
       other : (n : ℕ) → 1 < n → cond (eqb n 1) k no-kind ≡ no-kind
       other n h = ap (λ b. cond b k no-kind) (ne-eqb n 1 (λ e. omega arith))
+
+  pub single-lawful : Lawful (single-set m g)
+  single-lawful = alone-lawful (single m g) single-laws
+
+  pub twin-lawful : Lawful (twin-set m g)
+  twin-lawful = alone-lawful (twin m g) twin-laws
+
+  pub mixed-lawful : Lawful (mixed-set m g)
+  mixed-lawful = alone-lawful (mixed m g) mixed-laws

@@ -2,3 +2,4 @@ pub mod Sets
 pub mod Keys
 pub mod CodedLaws
 pub mod GroupLaws
+pub mod JoinLaws

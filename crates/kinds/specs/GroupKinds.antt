@@ -2,6 +2,7 @@
 --   single   width 1: the image of (w, 0) is g^w
 --   twin     width 1: the image of (w, 0) is g^w, h^w
 --   mixed    width 2: the image of (u, v) is g^u h^v
+--   single-set, twin-set, mixed-set   the sets of one kind
 -- An image is the words of one element and two zeros, at twin the words of two elements.
 use mathlib.Core.Bool.{cond, _&&_}
 use Prim.Native.Nat.{ℕ}
@@ -10,8 +11,8 @@ use Rattle.std.specs.declared.option.Option.{Option}
 use Rattle.std.specs.declared.option.Option.the-variants.{Some, None}
 use Rattle.groups.specs.Monoids.{MonoidModel, power}
 use Rattle.groups.specs.Groups.{GroupModel}
-use Rattle.kinds.specs.Kinds.{Key, Kind}
-use Rattle.kinds.specs.Coded.{Coding, coded}
+use Rattle.kinds.specs.Kinds.{Key, Kind, KindModel}
+use Rattle.kinds.specs.Coded.{Coding, coded, alone}
 use Rattle.kinds.specs.declared.image.Image.{Image}
 
 -- one element
@@ -50,3 +51,12 @@ module _ {E : Type 0} (m : MonoidModel E) (g : GroupModel E) where
 
   abbrev pub mixed : Kind
   mixed = coded (g .order) 2 m (one-element g) (λ w. m .times (power m (g .base-g) (w .0 .0)) (power m (g .base-h) (w .1 .0)))
+
+  abbrev pub single-set : KindModel
+  single-set = alone (g .order) single
+
+  abbrev pub twin-set : KindModel
+  twin-set = alone (g .order) twin
+
+  abbrev pub mixed-set : KindModel
+  mixed-set = alone (g .order) mixed

@@ -1,10 +1,10 @@
 // One group as a set of one kind, of width 1: the image of (w, 0) is g^w.
 ghost use mathlib.Core.Path.{_≡_};
 ghost use Rattle.kinds.specs.Kinds.{images};
-ghost use Rattle.kinds.specs.Coded.{alone};
-ghost use Rattle.kinds.specs.GroupKinds.{single as meant};
+ghost use Rattle.kinds.specs.GroupKinds.{«single-set» as meant};
 use crate::coding::is_one_element;
 use crate::coding::one_element;
+use crate::coding::one_element_product;
 use crate::image::Image;
 use crate::leaf_kinds::LeafKinds;
 use fields::Scalar;
@@ -22,7 +22,7 @@ pub impl<G: Group> Monoid for Single<G> as SingleMonoid {
 
     type Element = Image;
 
-    ghost monoid = { λ s n. images (alone (G·Group .group (s .group) .order) (meant (G·Monoid .monoid (s .group) tt) (G·Group .group (s .group))) .kind n) };
+    ghost monoid = { λ s n. images (meant (G·Monoid .monoid (s .group) tt) (G·Group .group (s .group)) .kind n) };
 
     fn neutral(&self, kind: u8) -> Image {
         if kind == 1 {
@@ -33,14 +33,12 @@ pub impl<G: Group> Monoid for Single<G> as SingleMonoid {
     }
 
     fn product(&self, _kind: u8, a: &Image, b: &Image) -> Image {
-        let x = self.group.known_element(a.0);
-        let y = self.group.known_element(b.0);
-        one_element(&self.group, &self.group.product((), &x, &y))
+        one_element_product(&self.group, a, b)
     }
 }
 
 pub impl<G: Group> LeafKinds for Single<G> as SingleLeafKinds {
-    ghost meaning = { λ s. alone (G·Group .group (s .group) .order) (meant (G·Monoid .monoid (s .group) tt) (G·Group .group (s .group))) };
+    ghost meaning = { λ s. meant (G·Monoid .monoid (s .group) tt) (G·Group .group (s .group)) };
 
     fn order(&self) -> u32 {
         self.group.order()
@@ -59,6 +57,9 @@ pub impl<G: Group> LeafKinds for Single<G> as SingleLeafKinds {
     }
 
     fn image_of_key(&self, _kind: u8, key: (Scalar, Scalar)) -> Image {
-        one_element(&self.group, &power(&self.group, (), &self.group.g(), key.0.value()))
+        one_element(
+            &self.group,
+            &power(&self.group, (), &self.group.g(), key.0.value()),
+        )
     }
 }
