@@ -29,6 +29,24 @@ pub enum Refusal {
     NoSuchGroup,
     // no element, or the neutral one
     UnfitBase(Base),
+    // a rule's text has no byte, or more than 240
+    TextLength,
+    // the grammar of rules allows no such byte here, or the text ends too early
+    Unexpected(u8),
+    // a key's number is not from 1 to 255, or begins with a zero
+    KeyNumber(u8),
+    // a gate's digit is not from 2 to 7
+    GateDigit(u8),
+    // an item stands nine deep
+    TooDeep(u8),
+    // the seventeenth key
+    TooManyKeys(u8),
+    // a gate's ninth item
+    TooManyItems(u8),
+    // a gate closes after one item, or with a digit that is not below the number of its items
+    TooFewItems(u8),
+    // an output is not as long as what is to be written
+    OutputLength,
 }
 
 impl Parameter {
@@ -63,6 +81,15 @@ impl Refusal {
             Refusal::NotPrime => 2,
             Refusal::NoSuchGroup => 3,
             Refusal::UnfitBase(_) => 4,
+            Refusal::TextLength => 6,
+            Refusal::Unexpected(_) => 7,
+            Refusal::KeyNumber(_) => 8,
+            Refusal::GateDigit(_) => 8,
+            Refusal::TooDeep(_) => 9,
+            Refusal::TooManyKeys(_) => 9,
+            Refusal::TooManyItems(_) => 9,
+            Refusal::TooFewItems(_) => 9,
+            Refusal::OutputLength => 21,
         }
     }
 
@@ -75,6 +102,15 @@ impl Refusal {
             Refusal::NotPrime => 1,
             Refusal::NoSuchGroup => 2,
             Refusal::UnfitBase(base) => base.place(),
+            Refusal::TextLength => 0,
+            Refusal::Unexpected(byte) => byte as u32,
+            Refusal::KeyNumber(byte) => byte as u32,
+            Refusal::GateDigit(byte) => byte as u32,
+            Refusal::TooDeep(byte) => byte as u32,
+            Refusal::TooManyKeys(byte) => byte as u32,
+            Refusal::TooManyItems(byte) => byte as u32,
+            Refusal::TooFewItems(byte) => byte as u32,
+            Refusal::OutputLength => 0,
         }
     }
 
@@ -89,6 +125,15 @@ impl Refusal {
             Refusal::NoSuchGroup => "no group of order q has this modulus p",
             Refusal::UnfitBase(Base::First) => "the base g is no element of the group, or is neutral",
             Refusal::UnfitBase(Base::Second) => "the base h is no element of the group, or is neutral",
+            Refusal::TextLength => "the rule's text has no byte, or more than 240",
+            Refusal::Unexpected(_) => "a rule does not go on with this byte, or ends too early",
+            Refusal::KeyNumber(_) => "a key's number is from 1 to 255, without leading zeros",
+            Refusal::GateDigit(_) => "a gate's digit is from 2 to 7",
+            Refusal::TooDeep(_) => "an item stands more than 8 deep",
+            Refusal::TooManyKeys(_) => "a rule has at most 16 keys",
+            Refusal::TooManyItems(_) => "a gate has at most 8 items",
+            Refusal::TooFewItems(_) => "a gate has at least 2 items, and more than its digit",
+            Refusal::OutputLength => "the output is not as long as what is to be written",
         }
     }
 }
