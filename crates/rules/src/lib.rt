@@ -1,0 +1,15 @@
+// Rules: their texts, read into a table and written again.
+pub mod entry;
+mod filling;
+mod head;
+mod letters;
+mod line;
+mod reading;
+pub mod table;
+mod writing;
+
+pub use entry::Children;
+pub use entry::Entry;
+pub use reading::read;
+pub use table::Table;
+pub use writing::write;
