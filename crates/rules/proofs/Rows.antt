@@ -1,15 +1,17 @@
--- How many rows and bytes there are.
-use Prim.Native.Nat.{ℕ, zero, suc, _+_, _≤_}
+-- How many rows and bytes there are, and what the arrays hold.
+use Prim.Native.Nat.{ℕ, zero, suc, _+_, _<_, _≤_}
 use native.Mathlib.Omega.{arith}
 use native.Mathlib.Decide.{ℕ-discrete}
 use mathlib.Core.Path.{_≡_, refl, ap, ap₂, _∙_}
 use mathlib.Core.List.{List, [], _∷_, _++_}
-use lib.ListN.{length, take}
+use lib.ListN.{length, take, getD}
 use borrow.Author.Tests.{eq-eqb, ne-eqb}
-use Rattle.std.proofs.shelf.Lists.{length-append, length-map, length-take-le}
+use Rattle.std.proofs.shelf.Lists.{length-append, length-map, length-take-le, getD-map, getD-take}
+use Rattle.rules.specs.declared.entry.Children.{Children}
+use Rattle.rules.specs.declared.entry.Entry.{Entry}
 use Rattle.rules.specs.declared.entry.Entries.{Entries}
 use Rattle.rules.specs.Grammar.{Rule, Rules, key, gate, none, more, count, text, marked, opening}
-use Rattle.rules.specs.Views.{listing}
+use Rattle.rules.specs.Views.{listing, row-of, children-of}
 use Rattle.rules.specs.Tables.{Row, size, size-of, rows, rows-of, starts}
 
 pub starts-length : (rs : Rules) (p : ℕ) → length (starts rs p) ≡ count rs
@@ -47,3 +49,17 @@ gate-length k rs = omega (arith, length-append (opening k (count rs)) (marked rs
 pub listing-length : (t : Entries) → length (listing t) ≡ t .len
 unfolding listing
 listing-length t = length-map (take (t .len) (t .slots)) _ ∙ length-take-le (t .len) (t .slots) (omega arith)
+
+pub listing-at : (t : Entries) (i : ℕ) (d : Entry) → i < t .len → getD (listing t) i (row-of d) ≡ row-of (getD (t .slots) i d)
+unfolding listing
+listing-at t i d l =
+    let long : i < length (take (t .len) (t .slots)) = omega (arith, length-take-le (t .len) (t .slots) (omega arith)) in
+    getD-map row-of (take (t .len) (t .slots)) i d (row-of d) long ∙ ap row-of (getD-take (t .len) (t .slots) i d l)
+
+pub children-length : (c : Children) → length (children-of c) ≡ c .count
+unfolding children-of
+children-length c = length-take-le (c .count) (c .positions) (omega arith)
+
+pub child-at : (c : Children) (i : ℕ) → i < c .count → getD (children-of c) i 0 ≡ getD (c .positions) i 0
+unfolding children-of
+child-at c i l = getD-take (c .count) (c .positions) i 0 l

@@ -17,7 +17,7 @@ use Rattle.rules.specs.Grammar.{Rule, Rules, key, gate, none, more, count, tex
 use Rattle.rules.specs.Tables.{size, size-of, rows, rows-of, starts, table, Row, leaf, node}
 use Rattle.rules.specs.Views.{children-of, listing, row-of}
 use Rattle.rules.specs.WriterSteps.{written, Spellable, Spelt, Items-spellable, Items-spelt, Can-spell, Can-spell-items}
-use Rattle.rules.proofs.Rows.{starts-length, rows-length, size-some, opening-length, marked-length, gate-length, listing-length}
+use Rattle.rules.proofs.Rows.{starts-length, rows-length, size-some, opening-length, marked-length, gate-length, listing-length, listing-at, children-length, child-at}
 
 pub written-length : (x : Line) → length (written x) ≡ x .len
 unfolding written
@@ -47,21 +47,13 @@ pub opening-of : (k n : ℕ) → (k ≡ 1 → ⊥) → (k ≡ n → ⊥) → ope
 unfolding opening
 opening-of k n p q = rw (ne-eqb k 1 p, ne-eqb k n q)
 
-children-length : (c : Children) → length (children-of c) ≡ c .count
-unfolding children-of
-children-length c = length-take-le (c .count) (c .positions) (omega arith)
-
 depth-some : (r : Rule) → 1 ≤ depth-below r
 depth-some (key n) = omega arith
 depth-some (gate k rs) = omega arith
 
--- what stands at a place
+-- what stands at a position
 row-at : (t : Entries) (place : ℕ) (e d : Entry) → place < t .len → e ≡ getD (t .slots) place d → drop place (listing t) ≡ row-of e ∷ drop (place + 1) (listing t)
-unfolding listing
-row-at t place e d l h =
-    let long : place < length (take (t .len) (t .slots)) = omega (arith, length-take-le (t .len) (t .slots) (omega arith)) in
-    drop-more (map row-of (take (t .len) (t .slots))) place (row-of d) (omega (arith, length-map (take (t .len) (t .slots)) row-of))
-    ∙ ap (λ y. y ∷ drop (place + 1) (map row-of (take (t .len) (t .slots)))) (getD-map row-of (take (t .len) (t .slots)) place d (row-of d) long ∙ ap row-of (getD-take (t .len) (t .slots) place d l ∙ sym h))
+row-at t place e d l h = drop-more (listing t) place (row-of d) (omega (arith, listing-length t)) ∙ ap (λ y. y ∷ drop (place + 1) (listing t)) (listing-at t place d l ∙ ap row-of (sym h))
 
 by-leaf : (r : Rule) (p x n b : ℕ) (beyond rest : List Row) → rows r p x ++ beyond ≡ leaf n b ∷ rest → r ≡ key n
 by-leaf (key v) p x n b beyond rest e = let q : v ≡ n = cc in ap key q
@@ -178,10 +170,6 @@ module _ (t : Entries) (place depth : ℕ) (x : Line) where
 no-rules : (rs : Rules) (p : ℕ) → [] ≡ starts rs p → rs ≡ none
 no-rules none p e = refl
 no-rules (more r rs) p e = let z : _≡_ {A = ℕ} 0 1 = cc in absurd (omega arith)
-
-child-at : (c : Children) (i : ℕ) → i < c .count → getD (children-of c) i 0 ≡ getD (c .positions) i 0
-unfolding children-of
-child-at c i l = getD-take (c .count) (c .positions) i 0 l
 
 -- items
 module _ (t : Entries) (c : Children) (from mark depth : ℕ) (x : Line) where

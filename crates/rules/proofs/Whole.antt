@@ -5,16 +5,18 @@ use mathlib.Core.Path.{_≡_, refl, sym, ap, ap₂, _∙_}
 use mathlib.Core.List.{List, [], _∷_, _++_}
 use mathlib.Core.Logic.{_⊎_, inl, inr}
 use lib.ListN.{length, getD}
+use Rattle.std.specs.Results.{Cases}
 use Rattle.std.specs.declared.result.Result.{Result}
 use Rattle.std.specs.declared.result.Result.the-variants.{Ok, Err}
 use Rattle.refusals.specs.declared.Refusal.{Refusal}
 use Rattle.refusals.specs.declared.Refusal.the-variants.{Unexpected, TextLength}
 use Rattle.rules.specs.declared.entry.Entries.{Entries}
+use Rattle.rules.specs.declared.table.Table.{Table}
 use Rattle.rules.specs.Grammar.{Rule, text, Legal}
 use Rattle.rules.specs.Tables.{Row, rows, table, WellFormed}
 use Rattle.rules.specs.Faults.{item, after, Open, state, step, finish, follow, scan}
 use Rattle.rules.specs.Views.{listing, Lawful}
-use Rattle.rules.specs.Texts.{Means, Read, Faulty, Written}
+use Rattle.rules.specs.Texts.{rows-in, Means, Read, Faulty, Written, Unfit, Unfit-copy}
 use Rattle.rules.specs.ReaderSteps.{from, onto, Item, Refused}
 use Rattle.rules.proofs.Steps.{ends}
 use Rattle.rules.proofs.Complete.{scan-text, text-injective}
@@ -85,3 +87,12 @@ pub write-whole : (t : Entries) (w : Lawful t) (out : List ℕ) → out ≡ text
 write-whole t w out e =
     let means : Means out (listing t) = record { rule = w .rule; legal = w .legal; spelt = sym e; listed = sym (w .listed) } in
     record { means = means; only = λ z n. one-text out z (listing t) means n }
+
+-- reading and writing undo each other
+pub read-again : (es : List Row) (out : List ℕ) → Written es out → (P : Refusal → Type 0) (r : Result Table Refusal) → Cases r (λ t. Read out (rows-in t)) (λ x. Faulty out x) → Cases r (λ t. rows-in t ≡ es) P
+read-again es out w P (Ok t) h = sym (h .only es (w .means))
+read-again es out w P (Err x) h = absurd (h .meaningless es (w .means))
+
+pub write-again : (s : List ℕ) (es : List Row) → Read s es → {A : Type 0} (out out′ : List ℕ) (r : Result A Refusal) → Cases r (λ _. Written es out′) (λ x. Unfit es out out′ x) → Cases r (λ _. out′ ≡ s) (λ x. Unfit-copy s out out′ x)
+write-again s es d out out′ (Ok u) w = sym (w .only s (d .means))
+write-again s es d out out′ (Err x) w = record { kept = w .kept; why = inr (w .refusal, w .other-length s (d .means)) }

@@ -6,7 +6,7 @@ ghost use lib.ListN.{length};
 ghost use Rattle.std.specs.Results.{Cases};
 ghost use Rattle.rules.specs.Grammar.{decimal, opening};
 ghost use Rattle.rules.specs.WriterSteps.{written, «Can-spell», Spelt, «Can-spell-items», «Items-spelt»};
-ghost use Rattle.rules.specs.Texts.{«rows-in», Written, Unfit};
+ghost use Rattle.rules.specs.Texts.{«rows-in», Written, «Text-length», Unfit};
 use crate::entry::Children;
 use crate::entry::Entries;
 use crate::entry::Entry;
@@ -117,13 +117,28 @@ fn spell_items(
     }
 }
 
+// The text of a table.
+fn spelled(table: &Table) -> Line
+    ensures { λ r. ⌜ Written («rows-in» (now (table .entry))) (written r) ⌝ }
+{
+    let mut line = Line::new();
+    spell(&table.entries, 0, 8, &mut line);
+    line
+}
+
+// How many bytes the text of a table has.
+pub fn text_length(table: &Table) -> usize
+    ensures { λ r. ⌜ «Text-length» («rows-in» (now (table .entry))) r ⌝ }
+{
+    spelled(table).len
+}
+
 // Writes the text of a table into an output of exactly its length.
 // An output of another length is refused, and left as it was.
 pub fn write(table: &Table, out: &mut [u8]) -> Result<(), Refusal>
     ensures { λ r. ⌜ Cases r (λ _. Written («rows-in» (now (table .entry))) (now (out .exit))) (λ x. Unfit («rows-in» (now (table .entry))) (now (out .entry)) (now (out .exit)) x) ⌝ }
 {
-    let mut line = Line::new();
-    spell(&table.entries, 0, 8, &mut line);
+    let line = spelled(table);
     if out.len() != line.len {
         return Err(Refusal::OutputLength);
     }
