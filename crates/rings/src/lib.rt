@@ -1,0 +1,8 @@
+// Rings of public keys, and pairing a rule with a ring.
+mod line;
+mod lines;
+mod ring;
+
+pub use line::Line;
+pub use line::Lines;
+pub use ring::read_ring;
