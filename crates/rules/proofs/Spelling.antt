@@ -1,20 +1,18 @@
 -- Writing, byte by byte and item by item.
-use Prim.Native.Nat.{ℕ, zero, suc, _+_, _-_, _*_, _/_, _%_, _<_, _≤_}
+use Prim.Native.Nat.{ℕ, _+_, _-_, _/_, _%_, _<_, _≤_}
 use native.Mathlib.Omega.{arith}
-use mathlib.Core.Path.{_≡_, refl, sym, ap, ap₂, subst, _∙_}
-use mathlib.Core.List.{List, [], _∷_, _++_, append-assoc, map}
-use lib.ListN.{length, getD, drop, take, set}
-use mathlib.Core.Logic.{_⊎_, inl, inr}
-use native.Mathlib.Decide.{decLt, ℕ-discrete}
+use mathlib.Core.Path.{_≡_, refl, sym, ap, subst, _∙_}
+use mathlib.Core.List.{List, [], _∷_, _++_, append-assoc}
+use lib.ListN.{length, getD, drop}
 use borrow.Author.Tests.{lt-ltb, le-ltb, eq-eqb, ne-eqb}
-use Rattle.std.proofs.shelf.Lists.{drop-more, drop-all, drop-drop, drop-at, append-nil, length-map, length-take-le, length-append, length-drop, getD-map, getD-take}
+use Rattle.std.proofs.shelf.Lists.{drop-more, drop-all, drop-drop, drop-at, append-nil, length-take-le, length-append, length-drop}
 use Rattle.rules.specs.declared.entry.Entry.{Entry}
 use Rattle.rules.specs.declared.entry.Entry.the-variants.{Leaf, Gate}
 use Rattle.rules.specs.declared.entry.Entries.{Entries}
 use Rattle.rules.specs.declared.entry.Children.{Children}
 use Rattle.rules.specs.declared.line.Line.{Line}
-use Rattle.rules.specs.Grammar.{Rule, Rules, key, gate, none, more, count, text, marked, opening, decimal, depth as depth-below, depth-of, Formed, Formed-all, Legal}
-use Rattle.rules.specs.Tables.{size, size-of, rows, rows-of, starts, table, Row, leaf, node}
+use Rattle.rules.specs.Grammar.{Rule, Rules, key, gate, none, more, count, text, marked, opening, decimal, depth as depth-below, Formed, Legal}
+use Rattle.rules.specs.Tables.{size, rows, rows-of, starts, table, Row, leaf, node}
 use Rattle.rules.specs.Views.{children-of, listing, row-of}
 use Rattle.rules.specs.WriterSteps.{written, Spellable, Spelt, Items-spellable, Items-spelt, Can-spell, Can-spell-items}
 use Rattle.rules.proofs.Rows.{starts-length, rows-length, size-some, opening-length, marked-length, gate-length, listing-length, listing-at, children-length, child-at}

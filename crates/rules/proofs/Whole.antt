@@ -2,8 +2,8 @@
 use Prim.Native.Nat.{ℕ, _+_, _<_, _≤_}
 use native.Mathlib.Omega.{arith}
 use mathlib.Core.Path.{_≡_, refl, sym, ap, ap₂, _∙_}
-use mathlib.Core.List.{List, [], _∷_, _++_}
-use mathlib.Core.Logic.{_⊎_, inl, inr}
+use mathlib.Core.List.{List, [], _++_}
+use mathlib.Core.Logic.{_⊎_, inr}
 use lib.ListN.{length, getD}
 use Rattle.std.specs.Results.{Cases}
 use Rattle.std.specs.declared.result.Result.{Result}
@@ -13,8 +13,8 @@ use Rattle.refusals.specs.declared.Refusal.the-variants.{Unexpected, TextLength
 use Rattle.rules.specs.declared.entry.Entries.{Entries}
 use Rattle.rules.specs.declared.table.Table.{Table}
 use Rattle.rules.specs.Grammar.{Rule, text, Legal}
-use Rattle.rules.specs.Tables.{Row, rows, table, WellFormed}
-use Rattle.rules.specs.Faults.{item, after, Open, state, step, finish, follow, scan}
+use Rattle.rules.specs.Tables.{Row, rows, table}
+use Rattle.rules.specs.Faults.{item, after, state, step, finish, follow, scan}
 use Rattle.rules.specs.Views.{listing, Lawful}
 use Rattle.rules.specs.Texts.{rows-in, Means, Read, Faulty, Written, Unfit, Unfit-copy}
 use Rattle.rules.specs.ReaderSteps.{from, onto, Item, Refused}

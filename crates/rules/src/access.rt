@@ -2,9 +2,9 @@
 ghost use mathlib.Core.Path.{_≡_};
 ghost use mathlib.Core.Option.{some};
 ghost use Prim.Native.Nat.{_≤_, _<_};
-ghost use lib.ListN.{length, getD, getElem?};
+ghost use lib.ListN.{length, getElem?};
 ghost use Rattle.std.specs.Options.{Cases};
-ghost use Rattle.rules.specs.Tables.{leaves, WellFormed};
+ghost use Rattle.rules.specs.Tables.{leaves};
 ghost use Rattle.rules.specs.Views.{«row-of», «children-of»};
 ghost use Rattle.rules.specs.Texts.{«rows-in»};
 use crate::entry::Children;

@@ -1,7 +1,6 @@
-use mathlib.Core.Path.{refl, sym, ap, _∙_}
-use mathlib.Core.Bool.{cond}
+use mathlib.Core.Path.{sym, ap, _∙_}
 use native.Mathlib.Omega.{arith}
-use Rattle.rules.specs.Faults.{digit, fits, threshold}
+use Rattle.rules.specs.Faults.{digit}
 use Rattle.rules.specs.Tables.{node, leaf}
 use Rattle.rules.specs.Views.{row-of, children-of, listing}
 use lib.ListN.{set}
