@@ -18,7 +18,7 @@ use Rattle.rules.specs.Faults.{item, second, word, number, digits, after, Open
 use Rattle.rules.specs.ReaderSteps.{Proper, from}
 use Rattle.rules.proofs.Steps.{spelling, run-ok, run-end, run-cons, go, word-ok, item-a, second-l, second-n, item-of}
 use Rattle.rules.proofs.Decimal.{step-first, step-digit, step-past, finish-past}
-use Rattle.rules.proofs.Nest.{key-ok, close-ok, then-push, count-push, comma-ok, bracket, scan-from}
+use Rattle.rules.proofs.Items.{key-ok, close-ok, then-push, count-push, comma-ok, bracket, scan-from}
 
 -- the account comes from the one to the other
 Reaches : State → ℕ → List ℕ → State → List ℕ → Type 0

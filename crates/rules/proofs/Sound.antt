@@ -19,7 +19,7 @@ use Rattle.rules.specs.Faults.{item, second, word, number, digits, after, Open
 use Rattle.rules.specs.ReaderSteps.{Proper, from}
 use Rattle.rules.proofs.Steps.{spelling, run-ok, run-err, run-end, word-ok, word-err, item-a, second-l, second-n, second-err, item-of, item-number, outside-lo, outside-hi}
 use Rattle.rules.proofs.Decimal.{decimal-one, decimal-more, step-first, step-zero, step-none, step-digit, step-large, step-past}
-use Rattle.rules.proofs.Nest.{key-ok, key-deep, key-many, deep-a, deep-digit, step-unexpected, close-ok, close-err, wants, opens as opens-so, count-push, comma-ok, comma-full, bracket, other, scan-from, scan-length}
+use Rattle.rules.proofs.Items.{key-ok, key-deep, key-many, deep-a, deep-digit, step-unexpected, close-ok, close-err, wants, opens as opens-so, count-push, comma-ok, comma-full, bracket, other, scan-from, scan-length}
 
 abbrev next-mark : Rules → ℕ → ℕ
 next-mark none m = m

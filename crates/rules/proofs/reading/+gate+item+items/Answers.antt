@@ -5,7 +5,7 @@ use Rattle.rules.specs.Tables.{node, leaf}
 use Rattle.rules.specs.Views.{row-of, children-of, listing}
 use lib.ListN.{set}
 use Rattle.rules.proofs.Steps.{outside-lo, outside-hi}
-use Rattle.rules.proofs.Nest.{gate-deep, gate-unclosed, gate-closed, item-unexpected, items-full, items-other, items-last, items-more}
+use Rattle.rules.proofs.Items.{gate-deep, gate-unclosed, gate-closed, item-unexpected, items-full, items-other, items-last, items-more}
 use Rattle.rules.proofs.reading.+gate+item+items.Needs as need
 
 pub gate-returns-then-depth-eq0 : need.gate-returns-then-depth-eq0
