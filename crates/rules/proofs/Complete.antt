@@ -1,26 +1,24 @@
 -- The account of a legal rule's text is the rule.
-use Prim.Native.Nat.{ℕ, zero, suc, _+_, _-_, _*_, _/_, _%_, _<_, _≤_, max}
+use Prim.Native.Nat.{ℕ, suc, _+_, _-_, _*_, _/_, _%_, _<_, _≤_}
 use native.Mathlib.Decide.{decLt, ℕ-discrete}
 use native.Mathlib.Omega.{arith}
-use mathlib.Core.Bool.{Bool, true, false, cond, _&&_, _||_}
+use mathlib.Core.Bool.{true, false}
 use mathlib.Core.Path.{_≡_, refl, sym, ap, ap₂, subst, _∙_}
 use mathlib.Core.List.{List, [], _∷_, _++_, append-assoc}
-use mathlib.Core.Logic.{_⊎_, inl, inr}
-use lib.Dec.{eqb, ltb, leb, lit<}
-use lib.ListN.{length, getD, drop}
-use borrow.Author.Tests.{lt-ltb, le-ltb, eq-eqb, ne-eqb, le-leb, lt-leb}
-use Rattle.std.proofs.shelf.Lists.{append-nil, drop-all}
+use lib.ListN.{length}
+use borrow.Author.Tests.{lt-ltb, le-ltb, eq-eqb, ne-eqb, le-leb}
+use Rattle.std.proofs.shelf.Lists.{append-nil}
 use Rattle.std.specs.declared.result.Result.{Result}
-use Rattle.std.specs.declared.result.Result.the-variants.{Ok, Err}
+use Rattle.std.specs.declared.result.Result.the-variants.{Ok}
 use Rattle.refusals.specs.declared.Refusal.{Refusal}
 use Rattle.rules.specs.declared.head.Head.{Head}
 use Rattle.rules.specs.declared.head.Head.the-variants.{All, Any, Of}
 use Rattle.rules.specs.Grammar.{Rule, Rules, key, gate, none, more, count, text, marked, opening, decimal, keys, keys-of, depth, depth-of, Formed, Formed-all, Legal}
-use Rattle.rules.specs.Faults.{item, second, word, number, digits, after, Open, opened, State, state, step, finish, run, follow, close, digit, fits, threshold, scan, _then_}
+use Rattle.rules.specs.Faults.{item, second, word, number, digits, after, Open, opened, State, state, step, finish, run, close, digit, fits, threshold, scan, _then_}
 use Rattle.rules.specs.ReaderSteps.{Proper, from}
-use Rattle.rules.proofs.Steps.{spelling, run-ok, run-end, run-cons, go, word-ok, item-a, second-l, second-n, item-of, outside-lo, ends}
+use Rattle.rules.proofs.Steps.{spelling, run-ok, run-end, run-cons, go, word-ok, item-a, second-l, second-n, item-of}
 use Rattle.rules.proofs.Decimal.{step-first, step-digit, step-past, finish-past}
-use Rattle.rules.proofs.Nest.{key-ok, close-ok, then-push, count-push, comma-ok, bracket, scan-from, scan-length, from-step}
+use Rattle.rules.proofs.Items.{key-ok, close-ok, then-push, count-push, comma-ok, bracket, scan-from}
 
 -- the account comes from the one to the other
 Reaches : State → ℕ → List ℕ → State → List ℕ → Type 0

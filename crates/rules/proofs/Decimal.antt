@@ -1,22 +1,20 @@
 -- A key's digits.
-use Prim.Native.Nat.{ℕ, zero, suc, _+_, _-_, _*_, _/_, _%_, _<_, _≤_}
+use Prim.Native.Nat.{ℕ, _+_, _-_, _*_, _/_, _%_, _<_, _≤_}
 use native.Mathlib.Decide.{decLt}
 use native.Mathlib.Omega.{arith}
-use mathlib.Core.Bool.{Bool, true, false, cond, _&&_, _||_}
-use mathlib.Core.Path.{_≡_, refl, sym, ap, ap₂, _∙_}
-use mathlib.Core.List.{List, [], _∷_, _++_, append-assoc}
-use lib.Dec.{eqb, ltb, leb, lit<}
+use mathlib.Core.Bool.{false}
+use mathlib.Core.Path.{_≡_, refl, sym, ap, _∙_}
+use mathlib.Core.List.{List, [], _∷_, _++_}
+use lib.Dec.{lit<}
 use lib.ListN.{length, getD, drop}
-use borrow.Author.Tests.{lt-ltb, le-ltb, eq-eqb, ne-eqb, le-leb, lt-leb}
+use borrow.Author.Tests.{lt-ltb, le-ltb, ne-eqb, le-leb, lt-leb}
 use Rattle.std.proofs.shelf.Lists.{drop-more, length-append}
-use Rattle.std.specs.declared.result.Result.{Result}
 use Rattle.std.specs.declared.result.Result.the-variants.{Ok, Err}
-use Rattle.refusals.specs.declared.Refusal.{Refusal}
 use Rattle.refusals.specs.declared.Refusal.the-variants.{Unexpected, KeyNumber}
-use Rattle.rules.specs.Grammar.{Rule, key, decimal}
-use Rattle.rules.specs.Faults.{number, digits, after, Open, State, state, step, finish, run, follow, digit}
+use Rattle.rules.specs.Grammar.{key, decimal}
+use Rattle.rules.specs.Faults.{number, digits, after, Open, State, state, step, finish, run, digit}
 use Rattle.rules.specs.ReaderSteps.{from, Numbered, Unnumbered}
-use Rattle.rules.proofs.Steps.{moves, stops, fails, letter, unfinished, run-cons, ends, go, inside}
+use Rattle.rules.proofs.Steps.{moves, stops, fails, unfinished, run-cons, ends, go, inside}
 
 pub decimal-one : (d : ℕ) → d < 10 → decimal d ≡ (48 + d) ∷ []
 unfolding decimal

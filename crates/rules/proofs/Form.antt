@@ -1,13 +1,13 @@
 -- The rows of a rule keep to their bounds: children stand after their gate and rise, and the leaves are the keys.
 use Prim.Native.Nat.{ℕ, zero, suc, _+_, _<_, _≤_}
 use native.Mathlib.Omega.{arith}
-use mathlib.Core.Path.{_≡_, refl, sym, ap, ap₂, subst, _∙_}
+use mathlib.Core.Path.{_≡_, refl, ap₂, subst, _∙_}
 use mathlib.Core.List.{List, [], _∷_, _++_}
 use mathlib.Core.Logic.{_⊎_, inl, inr}
-use mathlib.Core.Option.{Option, some, none as nothing}
+use mathlib.Core.Option.{some}
 use lib.ListN.{length, getD, getElem?}
 use Rattle.rules.specs.Grammar.{Rule, Rules, key, gate, none, more, count, text, keys, keys-of, Formed, Formed-all}
-use Rattle.rules.specs.Tables.{Row, leaf, node, size, size-of, rows, rows-of, starts, leaves, Leaf-at, Gate-at, Child}
+use Rattle.rules.specs.Tables.{Row, leaf, node, size, size-of, rows, rows-of, starts, leaves}
 use Rattle.rules.proofs.Rows.{starts-length, rows-length, size-some}
 
 -- what stands at a place of two lists

@@ -5,7 +5,7 @@ use native.Mathlib.Omega.{arith}
 use native.Mathlib.Bridge.{le-prop}
 use mathlib.Core.HLevel.{hedberg, isProp→PathP}
 use mathlib.Core.Path.{_≡_, refl, sym, ap₂, _∙_}
-use mathlib.Core.List.{List, List-discrete}
+use mathlib.Core.List.{List-discrete}
 use mathlib.Core.Logic.{∥∥₁-elim}
 use Rattle.rules.specs.declared.entry.Entries.{Entries}
 use Rattle.rules.specs.Grammar.{Rule, Rules, key, gate, none, more, keys, Formed, Formed-all, Legal}

@@ -2,7 +2,7 @@ pub mod Lists
 pub mod Rows
 pub mod Steps
 pub mod Decimal
-pub mod Nest
+pub mod Items
 pub mod Complete
 pub mod Sound
 pub mod Tables

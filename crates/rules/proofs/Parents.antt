@@ -2,15 +2,14 @@
 use Prim.Native.Nat.{ℕ, zero, suc, _+_, _<_, _≤_}
 use native.Mathlib.Omega.{arith}
 use native.Mathlib.Decide.{decLt, ℕ-discrete}
-use mathlib.Core.Path.{_≡_, refl, sym, ap, ap₂, subst, _∙_}
-use mathlib.Core.List.{List, [], _∷_, _++_}
+use mathlib.Core.Path.{_≡_, refl, sym, ap, ap₂, _∙_}
+use mathlib.Core.List.{List, _∷_, _++_}
 use mathlib.Core.Logic.{_⊎_, inl, inr}
-use mathlib.Core.Option.{Option, some, none as nothing}
-use lib.ListN.{length, getD, getElem?}
+use lib.ListN.{length, getD}
 use Rattle.rules.specs.Grammar.{Rule, Rules, key, gate, none, more, count, text, Formed, Formed-all, Legal}
-use Rattle.rules.specs.Tables.{Row, leaf, node, size, size-of, rows, rows-of, starts, table, leaves, Leaf-at, Gate-at, Child, Only, WellFormed}
+use Rattle.rules.specs.Tables.{Row, leaf, node, size, size-of, rows, rows-of, starts, table, Child, Only, WellFormed}
 use Rattle.rules.proofs.Rows.{starts-length, rows-length, size-some}
-use Rattle.rules.proofs.Form.{at-left, at-right, Either-side, side, held, starts-in, Good, each, each-of, leaves-keys}
+use Rattle.rules.proofs.Form.{at-left, at-right, Either-side, side, starts-in, each, each-of, leaves-keys}
 use Rattle.rules.proofs.Tables.{table-short}
 
 -- children of two lists of rows

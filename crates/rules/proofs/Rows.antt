@@ -1,9 +1,9 @@
 -- How many rows and bytes there are, and what the arrays hold.
-use Prim.Native.Nat.{ℕ, zero, suc, _+_, _<_, _≤_}
+use Prim.Native.Nat.{ℕ, suc, _+_, _<_, _≤_}
 use native.Mathlib.Omega.{arith}
 use native.Mathlib.Decide.{ℕ-discrete}
 use mathlib.Core.Path.{_≡_, refl, ap, ap₂, _∙_}
-use mathlib.Core.List.{List, [], _∷_, _++_}
+use mathlib.Core.List.{[], _∷_, _++_}
 use lib.ListN.{length, take, getD}
 use borrow.Author.Tests.{eq-eqb, ne-eqb}
 use Rattle.std.proofs.shelf.Lists.{length-append, length-map, length-take-le, getD-map, getD-take}
@@ -12,7 +12,7 @@ use Rattle.rules.specs.declared.entry.Entry.{Entry}
 use Rattle.rules.specs.declared.entry.Entries.{Entries}
 use Rattle.rules.specs.Grammar.{Rule, Rules, key, gate, none, more, count, text, marked, opening}
 use Rattle.rules.specs.Views.{listing, row-of, children-of}
-use Rattle.rules.specs.Tables.{Row, size, size-of, rows, rows-of, starts}
+use Rattle.rules.specs.Tables.{size, size-of, rows, rows-of, starts}
 
 pub starts-length : (rs : Rules) (p : ℕ) → length (starts rs p) ≡ count rs
 starts-length none p = refl

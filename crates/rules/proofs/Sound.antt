@@ -1,12 +1,11 @@
 -- What the account reads is a legal rule, and the text is that rule's.
-use Prim.Native.Nat.{ℕ, zero, suc, _+_, _-_, _*_, _<_, _≤_, max}
+use Prim.Native.Nat.{ℕ, suc, _+_, _-_, _*_, _<_, _≤_, max}
 use native.Mathlib.Decide.{decLt, ℕ-discrete}
 use native.Mathlib.Omega.{arith}
-use mathlib.Core.Bool.{Bool, true, false, cond, _&&_, _||_}
+use mathlib.Core.Bool.{Bool, true, false}
 use mathlib.Core.Path.{_≡_, refl, sym, ap, ap₂, subst, _∙_}
 use mathlib.Core.List.{List, [], _∷_, _++_, append-assoc}
-use mathlib.Core.Logic.{_⊎_, inl, inr}
-use lib.Dec.{eqb, ltb, leb}
+use mathlib.Core.Logic.{inl, inr}
 use lib.ListN.{length}
 use Rattle.std.proofs.shelf.Lists.{append-nil}
 use Rattle.std.specs.declared.result.Result.{Result}
@@ -15,12 +14,12 @@ use Rattle.refusals.specs.declared.Refusal.{Refusal}
 use Rattle.refusals.specs.declared.Refusal.the-variants.{TextLength, Unexpected}
 use Rattle.rules.specs.declared.head.Head.{Head}
 use Rattle.rules.specs.declared.head.Head.the-variants.{All, Any, Of}
-use Rattle.rules.specs.Grammar.{Rule, Rules, key, gate, none, more, count, text, marked, opening, decimal, keys, keys-of, depth, depth-of, Formed, Formed-all, Legal}
-use Rattle.rules.specs.Faults.{item, second, word, number, digits, after, Open, opened, State, state, step, finish, run, follow, close, onward, digit, fits, threshold, scan, _then_}
+use Rattle.rules.specs.Grammar.{Rule, Rules, key, gate, none, more, count, text, marked, decimal, keys, keys-of, depth, depth-of, Formed, Formed-all, Legal}
+use Rattle.rules.specs.Faults.{item, second, word, number, digits, after, Open, opened, State, state, step, finish, run, follow, onward, digit, fits, threshold, scan, _then_}
 use Rattle.rules.specs.ReaderSteps.{Proper, from}
 use Rattle.rules.proofs.Steps.{spelling, run-ok, run-err, run-end, word-ok, word-err, item-a, second-l, second-n, second-err, item-of, item-number, outside-lo, outside-hi}
 use Rattle.rules.proofs.Decimal.{decimal-one, decimal-more, step-first, step-zero, step-none, step-digit, step-large, step-past}
-use Rattle.rules.proofs.Nest.{key-ok, key-deep, key-many, deep-a, deep-digit, step-unexpected, close-ok, close-err, wants, opens as opens-so, count-push, comma-ok, comma-full, bracket, other, scan-from, scan-length}
+use Rattle.rules.proofs.Items.{key-ok, key-deep, key-many, deep-a, deep-digit, step-unexpected, close-ok, close-err, wants, opens as opens-so, count-push, comma-ok, comma-full, bracket, other, scan-from, scan-length}
 
 abbrev next-mark : Rules → ℕ → ℕ
 next-mark none m = m

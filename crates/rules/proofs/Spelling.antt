@@ -1,20 +1,18 @@
 -- Writing, byte by byte and item by item.
-use Prim.Native.Nat.{ℕ, zero, suc, _+_, _-_, _*_, _/_, _%_, _<_, _≤_}
+use Prim.Native.Nat.{ℕ, _+_, _-_, _/_, _%_, _<_, _≤_}
 use native.Mathlib.Omega.{arith}
-use mathlib.Core.Path.{_≡_, refl, sym, ap, ap₂, subst, _∙_}
-use mathlib.Core.List.{List, [], _∷_, _++_, append-assoc, map}
-use lib.ListN.{length, getD, drop, take, set}
-use mathlib.Core.Logic.{_⊎_, inl, inr}
-use native.Mathlib.Decide.{decLt, ℕ-discrete}
+use mathlib.Core.Path.{_≡_, refl, sym, ap, subst, _∙_}
+use mathlib.Core.List.{List, [], _∷_, _++_, append-assoc}
+use lib.ListN.{length, getD, drop}
 use borrow.Author.Tests.{lt-ltb, le-ltb, eq-eqb, ne-eqb}
-use Rattle.std.proofs.shelf.Lists.{drop-more, drop-all, drop-drop, drop-at, append-nil, length-map, length-take-le, length-append, length-drop, getD-map, getD-take}
+use Rattle.std.proofs.shelf.Lists.{drop-more, drop-all, drop-drop, drop-at, append-nil, length-take-le, length-append, length-drop}
 use Rattle.rules.specs.declared.entry.Entry.{Entry}
 use Rattle.rules.specs.declared.entry.Entry.the-variants.{Leaf, Gate}
 use Rattle.rules.specs.declared.entry.Entries.{Entries}
 use Rattle.rules.specs.declared.entry.Children.{Children}
 use Rattle.rules.specs.declared.line.Line.{Line}
-use Rattle.rules.specs.Grammar.{Rule, Rules, key, gate, none, more, count, text, marked, opening, decimal, depth as depth-below, depth-of, Formed, Formed-all, Legal}
-use Rattle.rules.specs.Tables.{size, size-of, rows, rows-of, starts, table, Row, leaf, node}
+use Rattle.rules.specs.Grammar.{Rule, Rules, key, gate, none, more, count, text, marked, opening, decimal, depth as depth-below, Formed, Legal}
+use Rattle.rules.specs.Tables.{size, rows, rows-of, starts, table, Row, leaf, node}
 use Rattle.rules.specs.Views.{children-of, listing, row-of}
 use Rattle.rules.specs.WriterSteps.{written, Spellable, Spelt, Items-spellable, Items-spelt, Can-spell, Can-spell-items}
 use Rattle.rules.proofs.Rows.{starts-length, rows-length, size-some, opening-length, marked-length, gate-length, listing-length, listing-at, children-length, child-at}
@@ -52,8 +50,8 @@ depth-some (key n) = omega arith
 depth-some (gate k rs) = omega arith
 
 -- what stands at a position
-row-at : (t : Entries) (place : ℕ) (e d : Entry) → place < t .len → e ≡ getD (t .slots) place d → drop place (listing t) ≡ row-of e ∷ drop (place + 1) (listing t)
-row-at t place e d l h = drop-more (listing t) place (row-of d) (omega (arith, listing-length t)) ∙ ap (λ y. y ∷ drop (place + 1) (listing t)) (listing-at t place d l ∙ ap row-of (sym h))
+row-at : (t : Entries) (position : ℕ) (e d : Entry) → position < t .len → e ≡ getD (t .slots) position d → drop position (listing t) ≡ row-of e ∷ drop (position + 1) (listing t)
+row-at t position e d l h = drop-more (listing t) position (row-of d) (omega (arith, listing-length t)) ∙ ap (λ y. y ∷ drop (position + 1) (listing t)) (listing-at t position d l ∙ ap row-of (sym h))
 
 by-leaf : (r : Rule) (p x n b : ℕ) (beyond rest : List Row) → rows r p x ++ beyond ≡ leaf n b ∷ rest → r ≡ key n
 by-leaf (key v) p x n b beyond rest e = let q : v ≡ n = cc in ap key q
@@ -74,32 +72,32 @@ by-gate (gate m rs) p x k ps beyond rest e =
     record { rules = rs; is = ap (λ n. gate n rs) a; at = b; after = d }
 
 -- an item
-module _ (t : Entries) (place depth : ℕ) (x : Line) where
-  pub inside : (r : Rule) → Spellable t place depth x r → (place < t .len) × (0 < depth)
+module _ (t : Entries) (position depth : ℕ) (x : Line) where
+  pub inside : (r : Rule) → Spellable t position depth x r → (position < t .len) × (0 < depth)
   inside r g =
       let n = size-some r in
-      let a = rows-length r place (g .byte) in
-      let b = length-append (rows r place (g .byte)) (g .beyond) in
-      let c = length-drop place (listing t) in
+      let a = rows-length r position (g .byte) in
+      let b = length-append (rows r position (g .byte)) (g .beyond) in
+      let c = length-drop position (listing t) in
       let d = ap length (g .stands) in
       let e = listing-length t in
       (omega arith, omega (arith, depth-some r, g .deep))
 
-  module _ (n b : ℕ) (d : Entry) (l : place < t .len) (e : Leaf n b ≡ getD (t .slots) place d) where
-    leaf-is : (r : Rule) → Spellable t place depth x r → r ≡ key n
+  module _ (n b : ℕ) (d : Entry) (e : Leaf n b ≡ getD (t .slots) position d) where
+    leaf-is : (r : Rule) → Spellable t position depth x r → r ≡ key n
     unfolding row-of
-    leaf-is r g = by-leaf r place (g .byte) n b (g .beyond) (drop (place + 1) (listing t)) (sym (g .stands) ∙ row-at t place (Leaf n b) d l e)
+    leaf-is r g = by-leaf r position (g .byte) n b (g .beyond) (drop (position + 1) (listing t)) (sym (g .stands) ∙ row-at t position (Leaf n b) d (inside r g .0) e)
 
-    pub leaf-room : (r : Rule) → Spellable t place depth x r → length (written x) + length (75 ∷ decimal n) ≤ 240
+    pub leaf-room : (r : Rule) → Spellable t position depth x r → length (written x) + length (75 ∷ decimal n) ≤ 240
     leaf-room r g = omega (arith, g .room, ap (λ q. length (text q)) (leaf-is r g))
 
-    pub a-leaf : (x1 x2 : Line) → written x1 ≡ written x ++ 75 ∷ [] → written x2 ≡ written x1 ++ decimal n → Spelt t place depth x x2
+    pub a-leaf : (x1 x2 : Line) → written x1 ≡ written x ++ 75 ∷ [] → written x2 ≡ written x1 ++ decimal n → Spelt t position depth x x2
     a-leaf x1 x2 f h r g = h ∙ ap (λ (z : List ℕ). z ++ decimal n) f ∙ append-assoc (written x) (75 ∷ []) (decimal n) ∙ ap (λ q. written x ++ text q) (sym (leaf-is r g))
 
-  module _ (k : ℕ) (c : Children) (d : Entry) (l : place < t .len) (e : Gate k c ≡ getD (t .slots) place d) where
-    gate-is : (r : Rule) (g : Spellable t place depth x r) → Gated r place (g .byte) k (children-of c) (g .beyond) (drop (place + 1) (listing t))
+  module _ (k : ℕ) (c : Children) (d : Entry) (e : Gate k c ≡ getD (t .slots) position d) where
+    gate-is : (r : Rule) (g : Spellable t position depth x r) → Gated r position (g .byte) k (children-of c) (g .beyond) (drop (position + 1) (listing t))
     unfolding row-of
-    gate-is r g = by-gate r place (g .byte) k (children-of c) (g .beyond) (drop (place + 1) (listing t)) (sym (g .stands) ∙ row-at t place (Gate k c) d l e)
+    gate-is r g = by-gate r position (g .byte) k (children-of c) (g .beyond) (drop (position + 1) (listing t)) (sym (g .stands) ∙ row-at t position (Gate k c) d (inside r g .0) e)
 
     record Opens (rs : Rules) : Type 0 where
       most : k ≤ c .count
@@ -108,12 +106,12 @@ module _ (t : Entries) (place depth : ℕ) (x : Line) where
       three : length (opening k (c .count)) ≡ 3
       room : length (written x) + (length (marked rs 40) + 4) ≤ 240
 
-    opens : (r : Rule) (g : Spellable t place depth x r) → Opens (gate-is r g .rules)
+    opens : (r : Rule) (g : Spellable t position depth x r) → Opens (gate-is r g .rules)
     opens r g =
         let w = gate-is r g in
         let rs = w .rules in
         let formed : Formed (gate k rs) = subst Formed (w .is) (g .formed) in
-        let many : c .count ≡ count rs = sym (children-length c) ∙ sym (ap length (w .at)) ∙ starts-length rs (place + 1) in
+        let many : c .count ≡ count rs = sym (children-length c) ∙ sym (ap length (w .at)) ∙ starts-length rs (position + 1) in
         record {
           most = omega (arith, formed .1);
           eight = omega (arith, formed .3);
@@ -122,11 +120,11 @@ module _ (t : Entries) (place depth : ℕ) (x : Line) where
           room = omega (arith, g .room, ap (λ q. length (text q)) (w .is), gate-length k rs, marked-length rs 40 44);
         }
 
-    pub opening-fits : (r : Rule) → Spellable t place depth x r → (k ≤ c .count) × (c .count ≤ 8) × (length (written x) + 3 ≤ 240)
+    pub opening-fits : (r : Rule) → Spellable t position depth x r → (k ≤ c .count) × (c .count ≤ 8) × (length (written x) + 3 ≤ 240)
     opening-fits r g = let o = opens r g in (o .most, o .eight, omega (arith, o .room))
 
     module _ (x1 : Line) (f : written x1 ≡ written x ++ opening k (c .count)) where
-      items-so : (r : Rule) (g : Spellable t place depth x r) → Items-spellable t c 0 40 (depth - 1) x1 (gate-is r g .rules)
+      items-so : (r : Rule) (g : Spellable t position depth x r) → Items-spellable t c 0 40 (depth - 1) x1 (gate-is r g .rules)
       items-so r g =
           let w = gate-is r g in
           let rs = w .rules in
@@ -135,7 +133,7 @@ module _ (t : Entries) (place depth : ℕ) (x : Line) where
           record {
             formed = formed .4;
             deep = omega (arith, g .deep, ap depth-below (w .is));
-            position = place + 1;
+            position = position + 1;
             byte = g .byte + 4;
             beyond = g .beyond;
             listed = sym (w .at);
@@ -143,20 +141,20 @@ module _ (t : Entries) (place depth : ℕ) (x : Line) where
             room = omega (arith, o .room, o .three, ap length f, length-append (written x) (opening k (c .count)));
           }
 
-      pub items-fit : (r : Rule) → Spellable t place depth x r → Can-spell-items t c 0 40 (depth - 1) x1
+      pub items-fit : (r : Rule) → Spellable t position depth x r → Can-spell-items t c 0 40 (depth - 1) x1
       items-fit r g = (gate-is r g .rules, items-so r g)
 
       module _ (x2 : Line) (h : Items-spelt t c 0 40 (depth - 1) x1 x2) where
-        so-far : (r : Rule) (g : Spellable t place depth x r) → written x2 ≡ (written x ++ opening k (c .count)) ++ marked (gate-is r g .rules) 40
+        so-far : (r : Rule) (g : Spellable t position depth x r) → written x2 ≡ (written x ++ opening k (c .count)) ++ marked (gate-is r g .rules) 40
         so-far r g = h (gate-is r g .rules) (items-so r g) ∙ ap (λ (z : List ℕ). z ++ marked (gate-is r g .rules) 40) f
 
-        pub closing-fits : (r : Rule) → Spellable t place depth x r → length (written x2) < 240
+        pub closing-fits : (r : Rule) → Spellable t position depth x r → length (written x2) < 240
         closing-fits r g =
             let o = opens r g in
             let m = marked (gate-is r g .rules) 40 in
             omega (arith, o .room, o .three, ap length (so-far r g), length-append (written x ++ opening k (c .count)) m, length-append (written x) (opening k (c .count)))
 
-        pub a-gate : (x3 : Line) → written x3 ≡ written x2 ++ 41 ∷ [] → Spelt t place depth x x3
+        pub a-gate : (x3 : Line) → written x3 ≡ written x2 ++ 41 ∷ [] → Spelt t position depth x x3
         a-gate x3 j r g =
             let w = gate-is r g in
             let rs = w .rules in

@@ -1,14 +1,13 @@
 -- The account, step by step, at the starts of a text.
-use Prim.Native.Nat.{ℕ, zero, suc, _+_, _-_, _*_, _<_, _≤_}
+use Prim.Native.Nat.{ℕ, _+_, _-_, _<_, _≤_}
 use native.Mathlib.Decide.{decLt}
 use native.Mathlib.Omega.{arith}
-use native.Mathlib.Nat.{add-assoc}
-use mathlib.Core.Bool.{Bool, true, false, cond, _&&_, _||_}
-use mathlib.Core.Path.{_≡_, refl, sym, ap, subst, _∙_}
-use mathlib.Core.List.{List, [], _∷_, _++_}
-use lib.Dec.{eqb, ltb, leb, lit<}
+use mathlib.Core.Bool.{true, false, _&&_}
+use mathlib.Core.Path.{_≡_, refl, ap, _∙_}
+use mathlib.Core.List.{List, [], _∷_}
+use lib.Dec.{leb, lit<}
 use lib.ListN.{length, getD, drop}
-use borrow.Author.Tests.{lt-ltb, le-ltb, eq-eqb, ne-eqb, le-leb, lt-leb}
+use borrow.Author.Tests.{eq-eqb, ne-eqb, le-leb, lt-leb}
 use Rattle.std.proofs.shelf.Lists.{getD-past, drop-more, drop-all}
 use Rattle.std.specs.declared.result.Result.{Result}
 use Rattle.std.specs.declared.result.Result.the-variants.{Ok, Err}
@@ -16,9 +15,9 @@ use Rattle.refusals.specs.declared.Refusal.{Refusal}
 use Rattle.refusals.specs.declared.Refusal.the-variants.{Unexpected, GateDigit}
 use Rattle.rules.specs.declared.head.Head.{Head}
 use Rattle.rules.specs.declared.head.Head.the-variants.{All, Any, Of}
-use Rattle.rules.specs.Grammar.{Rule, Rules, key, gate, none, more, count}
-use Rattle.rules.specs.Faults.{Next, item, second, word, number, digits, after, Open, opened, State, state, step, finish, run, follow, close, onward, digit, _then_}
-use Rattle.rules.specs.ReaderSteps.{from, onto, Ended, Unended, Headed, Unheaded}
+use Rattle.rules.specs.Grammar.{Rule}
+use Rattle.rules.specs.Faults.{Next, item, second, word, number, digits, after, Open, State, state, step, finish, run, onward}
+use Rattle.rules.specs.ReaderSteps.{from, Ended, Unended, Headed, Unheaded}
 
 pub inside : (s : List ℕ) (at b : ℕ) → getD s at 0 ≡ b → 0 < b → at < length s
 inside s at b e h = elim (decLt at (length s)) [ yes p ↦ p | no q ↦ absurd (omega (arith, e, getD-past s at 0 (omega arith))) ]

@@ -1,10 +1,10 @@
 -- Tables: one for each rule, and short.
-use Prim.Native.Nat.{ℕ, zero, suc, _+_, _*_, _<_, _≤_}
+use Prim.Native.Nat.{ℕ, _+_, _*_, _≤_}
 use native.Mathlib.Omega.{arith}
-use mathlib.Core.Path.{_≡_, refl, sym, ap, ap₂, subst, _∙_}
+use mathlib.Core.Path.{_≡_, refl, sym, ap, ap₂, _∙_}
 use mathlib.Core.List.{List, [], _∷_, _++_, append-assoc}
 use lib.ListN.{length}
-use Rattle.std.proofs.shelf.Lists.{append-nil, length-append}
+use Rattle.std.proofs.shelf.Lists.{append-nil}
 use Rattle.rules.specs.Grammar.{Rule, Rules, key, gate, none, more, count, text, keys, keys-of, Formed, Formed-all, Legal}
 use Rattle.rules.specs.Tables.{size, size-of, rows, rows-of, starts, table, Row, leaf, node}
 use Rattle.rules.proofs.Rows.{rows-length}

@@ -2,8 +2,8 @@
 use Prim.Native.Nat.{ℕ, _+_, _<_, _≤_}
 use native.Mathlib.Omega.{arith}
 use mathlib.Core.Path.{_≡_, refl, sym, ap, ap₂, _∙_}
-use mathlib.Core.List.{List, [], _∷_, _++_}
-use mathlib.Core.Logic.{_⊎_, inl, inr}
+use mathlib.Core.List.{List, [], _++_}
+use mathlib.Core.Logic.{_⊎_, inr}
 use lib.ListN.{length, getD}
 use Rattle.std.specs.Results.{Cases}
 use Rattle.std.specs.declared.result.Result.{Result}
@@ -14,16 +14,17 @@ use Rattle.rules.specs.declared.entry.Entries.{Entries}
 use Rattle.rules.specs.declared.table.Table.{Table}
 use Rattle.rules.specs.Grammar.{Rule, text, Legal}
 use Rattle.rules.specs.Tables.{Row, rows, table, WellFormed}
-use Rattle.rules.specs.Faults.{item, after, Open, state, step, finish, follow, scan}
+use Rattle.rules.specs.Faults.{item, after, state, step, finish, follow, scan}
 use Rattle.rules.specs.Views.{listing, Lawful}
 use Rattle.rules.specs.Texts.{rows-in, Means, Read, Faulty, Written, Unfit, Unfit-copy}
 use Rattle.rules.specs.ReaderSteps.{from, onto, Item, Refused}
 use Rattle.rules.proofs.Steps.{ends}
 use Rattle.rules.proofs.Complete.{scan-text, text-injective}
 use Rattle.rules.proofs.Sound.{scanned}
-use Rattle.rules.proofs.Nest.{scan-from, scan-length, from-step}
+use Rattle.rules.proofs.Items.{scan-from, scan-length, from-step}
 use Rattle.rules.proofs.Tables.{table-injective}
 use Rattle.rules.proofs.Parents.{well-formed}
+use Rattle.rules.proofs.Lawful.{lawful}
 
 -- a text means one table, and a table has one text
 pub one-table : (s : List ℕ) (es ds : List Row) → Means s es → Means s ds → ds ≡ es
@@ -78,6 +79,10 @@ module _ (s : List ℕ) (lo : 0 < length s) (hi : length s ≤ 240) (t : Entries
 
 pub read-length : (s : List ℕ) → (length s ≡ 0) ⊎ (240 < length s) → Faulty s TextLength
 read-length s h = faulty s TextLength (scan-length s h)
+
+-- every table is well formed
+pub table-well-formed : (t : Table) → WellFormed (rows-in t)
+table-well-formed t = let w = lawful (t .entries) (t .lawful) in rw (w .listed) (well-formed (w .rule) (w .legal))
 
 -- what was written
 pub write-means : (t : Entries) (w : Lawful t) → Means (text (w .rule)) (listing t)

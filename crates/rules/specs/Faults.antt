@@ -7,6 +7,7 @@
 --   step                  the state after one byte at its place, or the fault
 --   finish                the rule where the text ends, or the fault
 --   scan                  the rule of a text, or its first fault
+-- Bytes stand by their numbers, as in Grammar; a place is counted from 0.
 use Prim.Native.Nat.{ℕ, _+_, _-_, _*_}
 use mathlib.Core.Bool.{Bool, cond, _&&_, _||_}
 use mathlib.Core.List.{List, [], _∷_}

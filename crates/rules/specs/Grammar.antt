@@ -8,6 +8,7 @@
 --   keys, depth           how many keys a rule has; how deep it goes, its outermost item being 1 deep
 --   Formed                key numbers from 1 to 255; gates of 2 to 8 items that want from one of them to all
 --   Legal                 formed, and within the limits: 240 bytes, 16 keys, 8 deep
+-- Bytes stand by their numbers: ( 40, ) 41, the comma 44, the digits 48 to 57, K 75, a 97, f 102, l 108, n 110, o 111, y 121.
 use Prim.Native.Nat.{ℕ, suc, _+_, _/_, _%_, _≤_, max}
 use mathlib.Core.Bool.{cond}
 use mathlib.Core.List.{List, [], _∷_, _++_}

@@ -2,7 +2,7 @@
 ghost use mathlib.Core.Path.{_≡_};
 ghost use mathlib.Core.Option.{some};
 ghost use Prim.Native.Nat.{_≤_, _<_};
-ghost use lib.ListN.{length, getD, getElem?};
+ghost use lib.ListN.{length, getElem?};
 ghost use Rattle.std.specs.Options.{Cases};
 ghost use Rattle.rules.specs.Tables.{leaves, WellFormed};
 ghost use Rattle.rules.specs.Views.{«row-of», «children-of»};
@@ -12,9 +12,10 @@ use crate::entry::Entry;
 use crate::table::Table;
 
 impl Table {
-    // N, the number of entries, from 1 to 31.
+    // N, the number of entries, from 1 to 31. Every table is well formed.
     pub fn len(&self) -> usize
-        ensures { λ r. ⌜ r ≡ length («rows-in» (now (self .entry))) ⌝ }
+        ensures is { λ r. ⌜ r ≡ length («rows-in» (now (self .entry))) ⌝ }
+        ensures formed { λ _. ⌜ WellFormed («rows-in» (now (self .entry))) ⌝ }
     {
         self.entries.len
     }

@@ -1,6 +1,6 @@
 // Reads a rule's text by recursive descent: an item calls the reader of a gate's items and back, the depth left falling.
 ghost use mathlib.Core.Path.{_≡_};
-ghost use Prim.Native.Nat.{ℕ, _+_, _<_, _≤_};
+ghost use Prim.Native.Nat.{_+_, _<_, _≤_};
 ghost use lib.ListN.{length, getD};
 ghost use Rattle.std.specs.Results.{Cases};
 ghost use Rattle.rules.specs.ReaderSteps.{Room, Item, Refused, Items, «Items-refused», Begins};

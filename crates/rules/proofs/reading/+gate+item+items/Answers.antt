@@ -1,12 +1,11 @@
-use mathlib.Core.Path.{refl, sym, ap, _∙_}
-use mathlib.Core.Bool.{cond}
+use mathlib.Core.Path.{sym, ap, _∙_}
 use native.Mathlib.Omega.{arith}
-use Rattle.rules.specs.Faults.{digit, fits, threshold}
+use Rattle.rules.specs.Faults.{digit}
 use Rattle.rules.specs.Tables.{node, leaf}
 use Rattle.rules.specs.Views.{row-of, children-of, listing}
 use lib.ListN.{set}
 use Rattle.rules.proofs.Steps.{outside-lo, outside-hi}
-use Rattle.rules.proofs.Nest.{gate-deep, gate-unclosed, gate-closed, item-unexpected, items-full, items-other, items-last, items-more}
+use Rattle.rules.proofs.Items.{gate-deep, gate-unclosed, gate-closed, item-unexpected, items-full, items-other, items-last, items-more}
 use Rattle.rules.proofs.reading.+gate+item+items.Needs as need
 
 pub gate-returns-then-depth-eq0 : need.gate-returns-then-depth-eq0

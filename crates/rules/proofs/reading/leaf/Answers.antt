@@ -1,7 +1,7 @@
 use native.Mathlib.Omega.{arith}
 use Rattle.std.proofs.shelf.Results.{err-from-errBy}
 use Rattle.rules.specs.Views.{listing, row-of}
-use Rattle.rules.proofs.Nest.{leaf-deep, leaf-many, leaf-number, leaf-read}
+use Rattle.rules.proofs.Items.{leaf-deep, leaf-many, leaf-number, leaf-read}
 use Rattle.rules.proofs.reading.leaf.Needs as need
 
 pub returns-then-depth-eq0 : need.returns-then-depth-eq0

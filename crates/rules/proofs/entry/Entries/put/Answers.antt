@@ -1,6 +1,5 @@
 use mathlib.Core.Path.{refl, ap, _∙_}
 use mathlib.Core.List.{map}
-use native.Mathlib.Omega.{arith}
 use lib.ListN.{take}
 use Rattle.std.proofs.shelf.Lists.{map-set}
 use Rattle.rules.specs.Views.{listing, row-of}

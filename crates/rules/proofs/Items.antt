@@ -1,16 +1,15 @@
 -- Items, gates and whole texts.
-use Prim.Native.Nat.{ℕ, zero, suc, _+_, _-_, _*_, _<_, _≤_, max}
-use native.Mathlib.Decide.{decLt, ℕ-discrete}
+use Prim.Native.Nat.{ℕ, suc, _+_, _-_, _<_, _≤_}
+use native.Mathlib.Decide.{ℕ-discrete}
 use native.Mathlib.Omega.{arith}
-use mathlib.Core.Bool.{Bool, true, false, cond, _&&_, _||_}
-use mathlib.Core.Path.{_≡_, refl, sym, ap, ap₂, subst, _∙_}
-use mathlib.Core.List.{List, [], _∷_, _++_, append-assoc, map}
+use mathlib.Core.Bool.{Bool, true, false, _||_}
+use mathlib.Core.Path.{_≡_, refl, sym, ap, ap₂, _∙_}
+use mathlib.Core.List.{List, [], _∷_, _++_, append-assoc}
 use mathlib.Core.Logic.{_⊎_, inl, inr}
-use lib.Dec.{eqb, ltb, leb, lit<}
-use lib.ListN.{length, getD, drop, take, set}
+use lib.Dec.{eqb, lit<}
+use lib.ListN.{length, getD, drop, set}
 use borrow.Author.Tests.{lt-ltb, le-ltb, eq-eqb, ne-eqb, le-leb, lt-leb, leb-true, ltb-true}
-use Rattle.std.proofs.shelf.Lists.{drop-more, append-nil, length-append, length-map, length-take-le, set-at}
-use Rattle.std.proofs.shelf.Results.{cases-weaker}
+use Rattle.std.proofs.shelf.Lists.{drop-more, append-nil, length-append, set-at}
 use Rattle.std.specs.Results.{Cases}
 use Rattle.std.specs.declared.result.Result.{Result}
 use Rattle.std.specs.declared.result.Result.the-variants.{Ok, Err}
@@ -20,13 +19,13 @@ use Rattle.rules.specs.declared.entry.Entries.{Entries}
 use Rattle.rules.specs.declared.entry.Children.{Children}
 use Rattle.rules.specs.declared.head.Head.{Head}
 use Rattle.rules.specs.declared.head.Head.the-variants.{All, Any, Of}
-use Rattle.rules.specs.Grammar.{Rule, Rules, key, gate, none, more, count, text, marked, opening, decimal, keys, keys-of, depth as depthOf, depth-of, Formed, Formed-all, Legal}
-use Rattle.rules.specs.Tables.{size, size-of, rows, rows-of, starts, table, Row, leaf, node}
+use Rattle.rules.specs.Grammar.{Rule, Rules, key, gate, none, more, count, text, marked, opening, keys}
+use Rattle.rules.specs.Tables.{size, rows, rows-of, starts, Row, leaf, node}
 use Rattle.rules.specs.Views.{children-of, listing}
-use Rattle.rules.specs.Faults.{item, number, after, Open, opened, State, state, step, finish, run, follow, close, onward, digit, fits, threshold, scan, _then_}
-use Rattle.rules.specs.ReaderSteps.{from, onto, Room, Numbered, Unnumbered, Headed, Unheaded, Begins, Proper, Item, Refused, Items, Items-refused}
+use Rattle.rules.specs.Faults.{item, number, after, Open, opened, State, state, step, finish, run, follow, close, digit, fits, threshold, scan, _then_}
+use Rattle.rules.specs.ReaderSteps.{from, onto, Numbered, Unnumbered, Headed, Begins, Proper, Item, Refused, Items, Items-refused}
 use Rattle.rules.proofs.Rows.{gate-length, listing-length}
-use Rattle.rules.proofs.Steps.{moves, stops, fails, letter, unfinished, run-cons, ends, go, inside, outside-lo, outside-hi, spelling}
+use Rattle.rules.proofs.Steps.{moves, stops, fails, unfinished, run-cons, ends, go, inside, spelling}
 
 or-true : (b : Bool) → (b || true) ≡ true
 or-true true = refl
