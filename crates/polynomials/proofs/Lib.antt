@@ -1,0 +1,5 @@
+pub mod Total
+pub mod Ring
+pub mod Roots
+pub mod Forms
+pub mod Carried
