@@ -128,8 +128,8 @@ module _ {E : Type 0} {m : FieldModel E} (laws : FieldLaws m) where
       (omega (arith, length-raise zs h, length-raise (p .0) (p .2), p .1))
       (all-raise (λ z. eval K cs z ≡ eval K ds z) zs h
       (λ i l z-in.
-          let z = getD zs i (m .zero) in
-          same-element (value-raise (p .0) (p .2) (element laws z z-in) ∙ p .3 z z-in ∙ same i l ∙ sym (q .3 z z-in) ∙ sym (value-raise (q .0) (q .2) (element laws z z-in)))))
+      let z = getD zs i (m .zero) in
+      same-element (value-raise (p .0) (p .2) (element laws z z-in) ∙ p .3 z z-in ∙ same i l ∙ sym (q .3 z z-in) ∙ sym (value-raise (q .0) (q .2) (element laws z z-in)))))
       (element laws x k))
       ∙ value-raise (q .0) (q .2) (element laws x k) ∙ q .3 x k
 

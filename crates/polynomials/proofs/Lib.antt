@@ -3,3 +3,4 @@ pub mod Ring
 pub mod Roots
 pub mod Forms
 pub mod Carried
+pub mod Steps

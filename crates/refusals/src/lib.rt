@@ -84,11 +84,14 @@ impl Refusal {
             Refusal::OutOfRange(Parameter::Order) => "the order q is not from 11 to 2147483647",
             Refusal::OutOfRange(Parameter::Modulus) => "the modulus p is not from 11 to 2147483647",
             Refusal::NotListed(Parameter::Order) => "the order q is not one of 11, 13, 331, 166667",
-            Refusal::NotListed(Parameter::Modulus) => "the modulus p is not one of 23, 43, 53, 103, 2647, 1000003, 2000003, 2147483647",
+            Refusal::NotListed(Parameter::Modulus) =>
+                "the modulus p is not one of 23, 43, 53, 103, 2647, 1000003, 2000003, 2147483647",
             Refusal::NotPrime => "the order q is no prime",
             Refusal::NoSuchGroup => "no group of order q has this modulus p",
-            Refusal::UnfitBase(Base::First) => "the base g is no element of the group, or is neutral",
-            Refusal::UnfitBase(Base::Second) => "the base h is no element of the group, or is neutral",
+            Refusal::UnfitBase(Base::First) =>
+                "the base g is no element of the group, or is neutral",
+            Refusal::UnfitBase(Base::Second) =>
+                "the base h is no element of the group, or is neutral",
         }
     }
 }
