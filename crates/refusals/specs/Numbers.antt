@@ -8,7 +8,7 @@ use Rattle.refusals.specs.declared.Parameter.the-variants.{Order, Modulus}
 use Rattle.refusals.specs.declared.Base.{Base}
 use Rattle.refusals.specs.declared.Base.the-variants.{First, Second}
 use Rattle.refusals.specs.declared.Refusal.{Refusal}
-use Rattle.refusals.specs.declared.Refusal.the-variants.{OutOfRange, NotListed, NotPrime, NoSuchGroup, UnfitBase}
+use Rattle.refusals.specs.declared.Refusal.the-variants.{OutOfRange, NotListed, NotPrime, NoSuchGroup, UnfitBase, OrdersDiffer, TooManyKinds}
 
 abbrev pub parameter-place : Parameter → ℕ
 parameter-place Order = 1
@@ -24,6 +24,8 @@ number-of (NotListed x) = 2
 number-of NotPrime = 2
 number-of NoSuchGroup = 3
 number-of (UnfitBase x) = 4
+number-of OrdersDiffer = 5
+number-of TooManyKinds = 5
 
 abbrev pub place-of : Refusal → ℕ
 place-of (OutOfRange x) = parameter-place x
@@ -31,3 +33,5 @@ place-of (NotListed x) = parameter-place x
 place-of NotPrime = 1
 place-of NoSuchGroup = 2
 place-of (UnfitBase x) = base-place x
+place-of OrdersDiffer = 1
+place-of TooManyKinds = 2

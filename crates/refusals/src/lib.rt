@@ -29,6 +29,10 @@ pub enum Refusal {
     NoSuchGroup,
     // no element, or the neutral one
     UnfitBase(Base),
+    // the sides of a join count by different orders
+    OrdersDiffer,
+    // the sides of a join have more than 255 kinds together
+    TooManyKinds,
 }
 
 impl Parameter {
@@ -63,6 +67,8 @@ impl Refusal {
             Refusal::NotPrime => 2,
             Refusal::NoSuchGroup => 3,
             Refusal::UnfitBase(_) => 4,
+            Refusal::OrdersDiffer => 5,
+            Refusal::TooManyKinds => 5,
         }
     }
 
@@ -75,6 +81,8 @@ impl Refusal {
             Refusal::NotPrime => 1,
             Refusal::NoSuchGroup => 2,
             Refusal::UnfitBase(base) => base.place(),
+            Refusal::OrdersDiffer => 1,
+            Refusal::TooManyKinds => 2,
         }
     }
 
@@ -92,6 +100,8 @@ impl Refusal {
                 "the base g is no element of the group, or is neutral",
             Refusal::UnfitBase(Base::Second) =>
                 "the base h is no element of the group, or is neutral",
+            Refusal::OrdersDiffer => "the two sets of a join differ in their order q",
+            Refusal::TooManyKinds => "the two sets of a join have more than 255 kinds together",
         }
     }
 }
