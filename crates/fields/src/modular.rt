@@ -25,7 +25,7 @@ pub fn negative(m: u32, a: u32) -> u32
 }
 
 pub fn product(m: u32, a: u32, b: u32) -> u32
-    requires { ⌜ a < m ⌝ ∗ ⌜ b < m ⌝ }
+    requires { ⌜ 0 < m ⌝ }
     ensures { λ r. ⌜ r ≡ «product-mod» m a b ⌝ }
 {
     (a as u64 * b as u64 % m as u64) as u32

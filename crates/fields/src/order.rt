@@ -1,10 +1,11 @@
-// The field of the scalars modulo a prime order q.
-ghost use lib.Dec.{T};
-ghost use Rattle.fields.specs.Primes.{Prime, «in-range»};
+// The order of the scalars: a prime from 11 to 2,147,483,647.
+ghost use Prim.Native.Nat.{_≤_};
+ghost use Rattle.fields.specs.Primes.{Prime};
 
 #[derive(Clone, Copy)]
 pub struct Scalars {
-    q: u32,
-    ghost ranged: { T («in-range» q) },
+    pub(crate) q: u32,
+    ghost low: { 11 ≤ q },
+    ghost high: { q ≤ 2147483647 },
     ghost prime: { Prime q },
 }

@@ -1,0 +1,5 @@
+pub mod Sets
+pub mod Keys
+pub mod CodedLaws
+pub mod GroupLaws
+pub mod JoinLaws

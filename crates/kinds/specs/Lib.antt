@@ -1,0 +1,4 @@
+pub mod Kinds
+pub mod Coded
+pub mod GroupKinds
+pub mod Joins

@@ -1,0 +1,64 @@
+// One group as a set of one kind, of width 1: the image of (w, 0) is g^w, h^w.
+ghost use mathlib.Core.Path.{_≡_};
+ghost use Rattle.kinds.specs.Kinds.{images};
+ghost use Rattle.kinds.specs.GroupKinds.{«twin-set» as meant};
+use crate::coding::is_two_elements;
+use crate::coding::two_elements_product;
+use crate::image::Image;
+use crate::leaf_kinds::LeafKinds;
+use fields::Scalar;
+use groups::Group;
+use groups::Monoid;
+use groups::power;
+
+#[derive(Drop)]
+pub struct Twin<G: Group> {
+    pub group: G,
+}
+
+pub impl<G: Group> Monoid for Twin<G> as TwinMonoid {
+    type Index = u8;
+
+    type Element = Image;
+
+    ghost monoid = { λ s n. images (meant (G·Monoid .monoid (s .group) tt) (G·Group .group (s .group)) .kind n) };
+
+    fn neutral(&self, kind: u8) -> Image {
+        if kind == 1 {
+            let words = self.group.to_words(&self.group.neutral(()));
+            Image(words, words)
+        } else {
+            Image((0, 0), (0, 0))
+        }
+    }
+
+    fn product(&self, _kind: u8, a: &Image, b: &Image) -> Image {
+        two_elements_product(&self.group, a, b)
+    }
+}
+
+pub impl<G: Group> LeafKinds for Twin<G> as TwinLeafKinds {
+    ghost meaning = { λ s. meant (G·Monoid .monoid (s .group) tt) (G·Group .group (s .group)) };
+
+    fn order(&self) -> u32 {
+        self.group.order()
+    }
+
+    fn count(&self) -> u8 {
+        1
+    }
+
+    fn width(&self, kind: u8) -> u8 {
+        if kind == 1 { 1 } else { 0 }
+    }
+
+    fn is_image(&self, kind: u8, image: &Image) -> bool {
+        kind == 1 && is_two_elements(&self.group, image)
+    }
+
+    fn image_of_key(&self, _kind: u8, key: (Scalar, Scalar)) -> Image {
+        let x = power(&self.group, (), &self.group.g(), key.0.value());
+        let y = power(&self.group, (), &self.group.h(), key.0.value());
+        Image(self.group.to_words(&x), self.group.to_words(&y))
+    }
+}
