@@ -2,3 +2,4 @@ pub mod Primes
 pub mod Fields
 pub mod Modular
 pub mod Scalars
+pub mod Sizes

@@ -3,6 +3,7 @@ ghost use mathlib.Core.Path.{_≡_};
 ghost use Prim.Native.Nat.{ℕ, _≤_};
 ghost use lib.Dec.{T};
 ghost use Rattle.fields.specs.Fields.{FieldModel, FieldLaws, minus};
+ghost use Rattle.fields.specs.Sizes.{Small};
 
 pub trait Field {
     type Element: Copy;
@@ -12,6 +13,9 @@ pub trait Field {
 
     // what each implementation proves
     law lawful: { (s : Self) → FieldLaws (model s) };
+
+    // arrays of elements fit in memory
+    law small: { Small Self·Element·row };
 
     fn zero(&self) -> Self::Element
         ensures { λ r. ⌜ r ≡ model (now (self .entry)) .zero ⌝ };

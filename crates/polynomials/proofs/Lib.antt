@@ -1,0 +1,6 @@
+pub mod Total
+pub mod Ring
+pub mod Roots
+pub mod Forms
+pub mod Carried
+pub mod Steps

@@ -1,0 +1,3 @@
+pub mod Picked
+pub mod Splitting
+pub mod Forks
