@@ -165,7 +165,8 @@ impl Refusal {
             Refusal::NotInRing(_) => "the key's number stands in no line of the ring",
             Refusal::RingLength => "a ring has 1 to 16 lines of 18 bytes",
             Refusal::NotRising(_) => "the line's number is not above the one before it",
-            Refusal::NoImage(_) => "the line's kind is unknown, or its four words are no image of that kind",
+            Refusal::NoImage(_) =>
+                "the line's kind is unknown, or its four words are no image of that kind",
             Refusal::OutputLength => "the output is not as long as what is to be written",
         }
     }

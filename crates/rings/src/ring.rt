@@ -15,7 +15,8 @@ fn word_at(bytes: &[u8], at: usize) -> u32
     requires { ⌜ at + 4 ≤ length (now bytes) ⌝ }
     ensures { λ r. ⌜ r ≡ spelt (now (bytes .entry)) at ⌝ }
 {
-    ((bytes[at] as u32 * 256 + bytes[at + 1] as u32) * 256 + bytes[at + 2] as u32) * 256 + bytes[at + 3] as u32
+    ((bytes[at] as u32 * 256 + bytes[at + 1] as u32) * 256 + bytes[at + 2] as u32) * 256
+        + bytes[at + 3] as u32
 }
 
 fn line_at(bytes: &[u8], at: usize) -> Line

@@ -22,12 +22,13 @@ loop-i-again g c =
     let i = c .loop-i .i in
     let inv = c .loop-i .inv in
     let is = c .line-at-line .ensures in
-    let quiet : line-refusal m (c .loop-i .last) i (line-at s (18 * i)) ≡ None = ap (line-refusal m (c .loop-i .last) i) (sym is) ∙ sym (c .in-rest .ensures tt) in
-    (omega (arith, c .push .ensures .longer, inv .0),
+    let quiet : line-refusal m (c .loop-i .last) i (line-at s (18 * i)) ≡ None = ap (line-refusal m (c .loop-i .last) i) (sym is) ∙ sym (c .in-rest .ensures tt) in (
+      omega (arith, c .push .ensures .longer, inv .0),
       passed m s count i (c .loop-i .last) (c .loop-i-test .taken) (lines-refusal m 0 0 (ring-lines s)) (inv .1) quiet
-      ∙ ap (λ l. lines-refusal m (l .number) (i + 1) (lines-from s (18 * (i + 1)) (count - (i + 1)))) (sym is),
+          ∙ ap (λ l. lines-refusal m (l .number) (i + 1) (lines-from s (18 * (i + 1)) (count - (i + 1)))) (sym is),
       ap (λ ls. ls ++ lines-from s (18 * (i + 1)) (count - (i + 1))) (c .push .ensures .holds ∙ ap (λ l. lines-in (c .loop-i .lines) ++ l ∷ []) is)
-      ∙ gathered m s count i (c .loop-i .last) (c .loop-i-test .taken) (lines-in (c .loop-i .lines)) (ring-lines s) (inv .2))
+          ∙ gathered m s count i (c .loop-i .last) (c .loop-i-test .taken) (lines-in (c .loop-i .lines)) (ring-lines s) (inv .2),
+    )
 
 pub returns-in-Err : need.returns-in-Err
 returns-in-Err g c =
