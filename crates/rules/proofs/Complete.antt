@@ -118,10 +118,6 @@ closes : (h : Head) (rs : Rules) (gs : List Open) (k at : ℕ) (rest : List ℕ)
 unfolding Reaches
 closes h rs gs k at rest st e f = (at + 1, run-ok st (state gs k (after (gate (threshold h (count rs)) rs))) at 41 rest (e ∙ close-ok h rs gs k at f))
 
-at-keys : (st end : State) (at : ℕ) (bs rest : List ℕ) → st ≡ end → Reaches st at bs end bs
-unfolding Reaches
-at-keys st end at bs rest e = (at, ap (λ s. run s at bs) e)
-
 mutual
   runs : (r : Rule) (gs : List Open) (k at : ℕ) (rest : List ℕ) → Formed r → length gs + depth r ≤ 8 → k + keys r ≤ 16 → NoDigit rest → Reaches (state gs k item) at (text r ++ rest) (state gs (k + keys r) (after r)) rest
   runs (key v) gs k at rest f d l n =

@@ -119,9 +119,6 @@ opens (Of k) n p e = let q = ltb-true k n e in rw (ne-eqb k 1 (λ z. omega arith
 module _ (s : List ℕ) (at depth : ℕ) (t t1 t2 : Entries) (c0 c1 : Children) (h : Head) (inner last : ℕ)
     (d : 0 < depth) (hd : Headed s at h inner) (empty : c0 .count ≡ 0) (same : t1 .keys ≡ t .keys)
     (its : Items s inner (depth - 1) c0 c1 t1 t2 last) where
-  all-of : Rules
-  all-of = more (its .one) (its .others)
-
   to-close : (gs : List Open) → length gs + depth ≡ 8 → from s (state gs (t .keys) item) at ≡ onto s (close h (more (its .one) (its .others)) gs (t2 .keys) last) (last + 1)
   to-close gs g = hd .account gs (t .keys) (omega arith) ∙ ap (λ k. from s (state (opened h none ∷ gs) k item) inner) (sym same) ∙ its .account gs h none (sym empty) (omega arith)
 
@@ -198,7 +195,6 @@ module _ (s : List ℕ) (at depth : ℕ) (c c1 : Children) (t t1 : Entries) (nex
     counted = omega (arith, it .counted);
     many = pushed;
     inside = inside s next 41 e (lit< tt);
-    closing = e;
     ends = omega (arith, it .ends, length-append (text (it .rule)) []);
     holds = held;
     listed = it .listed ∙ ap (λ (xs : List Row). listing t ++ xs) (sym (append-nil (rows (it .rule) (t .len) at)));
@@ -227,7 +223,6 @@ module _ (s : List ℕ) (at depth : ℕ) (c c1 : Children) (t t1 : Entries) (nex
           counted = omega (arith, it .counted, j .counted);
           many = omega (arith, j .many);
           inside = j .inside;
-          closing = j .closing;
           ends = omega (arith, it .ends, j .ends, length-append (text (it .rule)) (marked rs 44));
           holds = j .holds ∙ ap₂ _++_ held (ap (starts rs) (it .sized)) ∙ append-assoc (children-of c) (t .len ∷ []) (starts rs (t .len + size (it .rule)));
           listed = j .listed ∙ ap₂ _++_ (it .listed) (ap₂ (rows-of rs) (it .sized) (ap (λ n. n + 1) (it .ends))) ∙ append-assoc (listing t) (rows (it .rule) (t .len) at) (rows-of rs (t .len + size (it .rule)) (at + length (text (it .rule)) + 1));

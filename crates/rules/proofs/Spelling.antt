@@ -21,10 +21,6 @@ pub written-length : (x : Line) → length (written x) ≡ x .len
 unfolding written
 written-length x = length-take-le (x .len) (x .bytes) (omega arith)
 
-pub decimal-1 : (n : ℕ) → n < 10 → decimal n ≡ (48 + n) ∷ []
-unfolding decimal
-decimal-1 n h = rw (lt-ltb n 10 h)
-
 pub decimal-2 : (n : ℕ) → 10 ≤ n → n < 100 → decimal n ≡ (48 + n / 10) ∷ (48 + n % 10) ∷ []
 unfolding decimal
 decimal-2 n h g = rw (le-ltb n 10 h, lt-ltb n 100 g)

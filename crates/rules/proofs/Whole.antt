@@ -85,9 +85,6 @@ pub table-well-formed : (t : Table) → WellFormed (rows-in t)
 table-well-formed t = let w = lawful (t .entries) (t .lawful) in rw (w .listed) (well-formed (w .rule) (w .legal))
 
 -- what was written
-pub write-means : (t : Entries) (w : Lawful t) → Means (text (w .rule)) (listing t)
-write-means t w = record { rule = w .rule; legal = w .legal; spelt = refl; listed = sym (w .listed) }
-
 pub write-whole : (t : Entries) (w : Lawful t) (out : List ℕ) → out ≡ text (w .rule) → Written (listing t) out
 write-whole t w out e =
     let means : Means out (listing t) = record { rule = w .rule; legal = w .legal; spelt = sym e; listed = sym (w .listed) } in

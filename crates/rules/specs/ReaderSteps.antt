@@ -9,7 +9,7 @@
 use Prim.Native.Nat.{ℕ, suc, _+_, _*_, _≤_, _<_}
 use mathlib.Core.Path.{_≡_}
 use mathlib.Core.List.{List, [], _∷_, _++_}
-use lib.ListN.{length, getD, drop}
+use lib.ListN.{length, drop}
 use Rattle.std.specs.declared.result.Result.{Result}
 use Rattle.std.specs.declared.result.Result.the-variants.{Ok, Err}
 use Rattle.refusals.specs.declared.Refusal.{Refusal}
@@ -87,7 +87,6 @@ pub record Items (s : List ℕ) (at depth : ℕ) (c c′ : Children) (t t′ : E
   pub counted : t′ .keys ≡ t .keys + keys-of (more one others)
   pub many : c′ .count ≡ c .count + count (more one others)
   pub inside : end < length s
-  pub closing : getD s end 0 ≡ 41
   pub ends : end + 1 ≡ at + length (marked (more one others) 44)
   pub holds : children-of c′ ≡ children-of c ++ starts (more one others) (t .len)
   pub listed : listing t′ ≡ listing t ++ rows-of (more one others) (t .len) at

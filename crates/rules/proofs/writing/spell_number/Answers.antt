@@ -5,11 +5,12 @@ use native.Mathlib.Omega.{arith}
 use lib.ListN.{length}
 use Rattle.std.proofs.shelf.Lists.{length-append}
 use Rattle.rules.specs.WriterSteps.{written}
-use Rattle.rules.proofs.Spelling.{decimal-1, decimal-2, decimal-3}
+use Rattle.rules.proofs.Decimal.{decimal-one}
+use Rattle.rules.proofs.Spelling.{decimal-2, decimal-3}
 use Rattle.rules.proofs.writing.spell_number.Needs as need
 
 pub push-requires : need.push-requires
-push-requires c = omega (arith, ap length (decimal-1 (c .args .n) (c .if-n-lt10 .taken)))
+push-requires c = omega (arith, ap length (decimal-one (c .args .n) (c .if-n-lt10 .taken)))
 
 pub push-requires-then-n-lt100 : need.push-requires-then-n-lt100
 push-requires-then-n-lt100 c = omega (arith, ap length (decimal-2 (c .args .n) (c .if-n-lt10 .left) (c .if-n-lt100 .taken)))
@@ -21,7 +22,7 @@ pub push3-requires : need.push3-requires
 push3-requires c = omega (arith, ap length (decimal-3 (c .args .n) (c .if-n-lt100 .left)))
 
 pub returns-then-n-lt10 : need.returns-then-n-lt10
-returns-then-n-lt10 c = c .push .ensures ∙ ap (λ xs. written (c .args .line .now) ++ xs) (sym (decimal-1 (c .args .n) (c .if-n-lt10 .taken)))
+returns-then-n-lt10 c = c .push .ensures ∙ ap (λ xs. written (c .args .line .now) ++ xs) (sym (decimal-one (c .args .n) (c .if-n-lt10 .taken)))
 
 pub returns-then-n-lt100 : need.returns-then-n-lt100
 returns-then-n-lt100 c =
