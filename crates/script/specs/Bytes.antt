@@ -2,6 +2,7 @@
 --   in-class c b     the byte b is of the class c
 --   leading c bs     how many bytes at the front of bs are of the class c
 --   front c bs, past c bs   these bytes, and the bytes after them
+--   after-line bs    the bytes after the first end of a line
 --   same xs ys       the two texts are one
 --   digits w         w has only decimal digits
 --   decimal n w      the number that the digits w stand for after the digits of n
@@ -35,6 +36,9 @@ front c bs = take (leading c bs) bs
 
 abbrev pub past : Class → List ℕ → List ℕ
 past c bs = drop (leading c bs) bs
+
+abbrev pub after-line : List ℕ → List ℕ
+after-line bs = drop 1 (past Line bs)
 
 abbrev pub same : List ℕ → List ℕ → Bool
 same [] [] = true
