@@ -1,7 +1,4 @@
 // Runs a script: the file that the first argument names, or else the standard input.
-use script::FaultDisplay;
-use script::Lines;
-use script::LinesIterator;
 use script::ReplyDisplay;
 use script::Session;
 use std::env;
@@ -10,6 +7,9 @@ use std::fs;
 use std::io::BufWriter;
 use std::io::Read;
 use std::io::Write;
+use words::FaultDisplay;
+use words::Lines;
+use words::LinesIterator;
 
 fn input(rt: &LibcRuntime) -> Result<Vec<u8>, AnyError> {
     let mut args = env::args(rt)?;

@@ -8,7 +8,7 @@ use Rattle.std.specs.Options.{okOr}
 use Rattle.std.specs.Vec.{made}
 use Rattle.groups.specs.Monoids.{MonoidModel}
 use Rattle.groups.specs.Groups.{GroupModel, GroupLaws}
-use Rattle.script.specs.declared.fault.Fault.{Fault}
+use Rattle.words.specs.declared.fault.Fault.{Fault}
 
 pub element-in : {E : Type 0} {m : MonoidModel E} {p : GroupModel E} → GroupLaws m p → (w : ℕ × ℕ) (why : Fault) (o : Option E) → p .reads w ≡ o
     → made (okOr o why) (λ x. T (m .member x))

@@ -9,9 +9,9 @@ use Rattle.groups.specs.declared.checked.CircleGroup.{CircleGroup}
 use Rattle.groups.specs.Circles.{Pair, pair, circle-refusal, circle-elements, circle-model}
 use Rattle.std.specs.declared.result.Result.{Result}
 use Rattle.std.specs.Options.{mapped}
-use Rattle.script.specs.declared.fault.Fault.{Fault}
-use Rattle.script.specs.declared.kind.Kind.{Kind}
-use Rattle.script.specs.declared.kind.Kind.the-variants.{Circle}
+use Rattle.words.specs.declared.fault.Fault.{Fault}
+use Rattle.words.specs.declared.kind.Kind.{Kind}
+use Rattle.words.specs.declared.kind.Kind.the-variants.{Circle}
 use Rattle.script.specs.declared.questions.Question.{Question}
 use Rattle.script.specs.declared.scalar_commands.ScalarCommand.{ScalarCommand}
 use Rattle.script.specs.declared.scalar_commands.ScalarReply.{ScalarReply}

@@ -10,16 +10,16 @@ use Rattle.std.specs.declared.option.Option.{Option}
 use Rattle.std.specs.declared.option.Option.the-variants.{Some, None}
 use Rattle.std.specs.declared.result.Result.{Result}
 use Rattle.std.specs.declared.result.Result.the-variants.{Ok, Err}
-use Rattle.script.specs.declared.bytes.Class.the-variants.{Code}
-use Rattle.script.specs.declared.fault.Fault.{Fault}
-use Rattle.script.specs.declared.fault.Expected.the-variants as wants
+use Rattle.words.specs.declared.bytes.Class.the-variants.{Code}
+use Rattle.words.specs.declared.fault.Fault.{Fault}
+use Rattle.words.specs.declared.fault.Expected.the-variants as wants
 use Rattle.script.specs.declared.group_commands.Verb.{Verb}
 use Rattle.script.specs.declared.group_commands.GroupCommand.{GroupCommand}
 use Rattle.script.specs.declared.scalar_commands.ScalarCommand.{ScalarCommand}
 use Rattle.script.specs.declared.command.Command.{Command}
 use Rattle.script.specs.declared.command.Command.the-variants.{Group, Scalar}
-use Rattle.script.specs.Bytes.{front, same}
-use Rattle.script.specs.Words.{fault, word-of, after-word}
+use Rattle.words.specs.Bytes.{front, same}
+use Rattle.words.specs.Words.{fault, word-of, after-word}
 use Rattle.script.specs.GroupCommands.{verb-of, group-command}
 use Rattle.script.specs.ScalarCommands.{scalar-command}
 

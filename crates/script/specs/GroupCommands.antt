@@ -11,17 +11,17 @@ use Rattle.std.specs.declared.option.Option.{Option}
 use Rattle.std.specs.declared.option.Option.the-variants.{Some, None}
 use Rattle.std.specs.declared.result.Result.{Result}
 use Rattle.std.specs.declared.result.Result.the-variants.{Ok, Err}
-use Rattle.script.specs.declared.kind.Kind as kinds
-use Rattle.script.specs.declared.kind.Kind.the-variants.{Residue, Circle}
-use Rattle.script.specs.declared.fault.Fault.{Fault}
-use Rattle.script.specs.declared.fault.Expected.the-variants.{Kind as AKind}
+use Rattle.words.specs.declared.kind.Kind as kinds
+use Rattle.words.specs.declared.kind.Kind.the-variants.{Residue, Circle}
+use Rattle.words.specs.declared.fault.Fault.{Fault}
+use Rattle.words.specs.declared.fault.Expected.the-variants.{Kind as AKind}
 use Rattle.script.specs.declared.questions.Question.the-variants as asks
 use Rattle.script.specs.declared.group_commands.Verb.{Verb}
 use Rattle.script.specs.declared.group_commands.Verb.the-variants as verbs
 use Rattle.script.specs.declared.group_commands.GroupCommand.{GroupCommand}
 use Rattle.script.specs.declared.group_commands.GroupCommand.the-variants.{MakeResidue, MakeCircle, Ask}
-use Rattle.script.specs.Bytes.{same}
-use Rattle.script.specs.Words.{fault, word-of, after-word, following, numbers-at, built, at}
+use Rattle.words.specs.Bytes.{same}
+use Rattle.words.specs.Words.{fault, word-of, after-word, following, numbers-at, built, at}
 
 abbrev pub verb-of : List ℕ → Option Verb
 verb-of w =

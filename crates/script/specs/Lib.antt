@@ -1,5 +1,3 @@
-pub mod Bytes
-pub mod Words
 pub mod Questions
 pub mod GroupCommands
 pub mod ScalarCommands

@@ -7,14 +7,14 @@ use Rattle.std.specs.declared.result.Result.the-variants.{Ok, Err}
 use Rattle.std.specs.Options.{okOr, isSome}
 use Rattle.groups.specs.Monoids.{MonoidModel, power}
 use Rattle.groups.specs.Groups.{GroupModel}
-use Rattle.script.specs.declared.kind.Kind.{Kind}
-use Rattle.script.specs.declared.fault.Fault.{Fault}
-use Rattle.script.specs.declared.fault.Expected.the-variants.{Element as AnElement}
+use Rattle.words.specs.declared.kind.Kind.{Kind}
+use Rattle.words.specs.declared.fault.Fault.{Fault}
+use Rattle.words.specs.declared.fault.Expected.the-variants.{Element as AnElement}
 use Rattle.script.specs.declared.questions.Question.{Question}
 use Rattle.script.specs.declared.questions.Question.the-variants as asks
 use Rattle.script.specs.declared.group_commands.GroupReply.{GroupReply}
 use Rattle.script.specs.declared.group_commands.GroupReply.the-variants as says
-use Rattle.script.specs.Words.{fault}
+use Rattle.words.specs.Words.{fault}
 
 abbrev pub product-reply : ℕ × ℕ → GroupReply
 product-reply w = says.Product (w .0) (w .1)

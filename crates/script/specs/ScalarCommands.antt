@@ -21,15 +21,15 @@ use Rattle.fields.specs.declared.scalar.Scalar as scalars
 use Rattle.fields.specs.Modular.{sum-mod, product-mod}
 use Rattle.fields.specs.Primes.{Prime, in-range}
 use Rattle.fields.specs.Scalars.{scalar}
-use Rattle.script.specs.declared.fault.Fault.{Fault}
-use Rattle.script.specs.declared.fault.Expected.the-variants as wants
+use Rattle.words.specs.declared.fault.Fault.{Fault}
+use Rattle.words.specs.declared.fault.Expected.the-variants as wants
 use Rattle.script.specs.declared.scalar_commands.Operation.{Operation}
 use Rattle.script.specs.declared.scalar_commands.Operation.the-variants.{Add, Multiply, Divide}
 use Rattle.script.specs.declared.scalar_commands.ScalarCommand.{ScalarCommand}
 use Rattle.script.specs.declared.scalar_commands.ScalarReply.{ScalarReply}
 use Rattle.script.specs.declared.scalar_commands.ScalarReply.the-variants.{Refused, Sum, Product, Quotient}
-use Rattle.script.specs.Bytes.{same}
-use Rattle.script.specs.Words.{fault, word-of, after-word, following, numbers-at, built, at}
+use Rattle.words.specs.Bytes.{same}
+use Rattle.words.specs.Words.{fault, word-of, after-word, following, numbers-at, built, at}
 
 abbrev pub operation-at : ℕ → List ℕ → Result Operation Fault
 operation-at place bs =

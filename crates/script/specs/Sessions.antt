@@ -22,10 +22,10 @@ use Rattle.groups.specs.declared.checked.ResidueGroup.{ResidueGroup}
 use Rattle.groups.specs.declared.checked.CircleGroup.{CircleGroup}
 use Rattle.groups.specs.Residues.{residue, residue-elements, residue-model, residue-refusal}
 use Rattle.groups.specs.Circles.{Pair, pair, circle-elements, circle-model, circle-refusal}
-use Rattle.script.specs.declared.kind.Kind.{Kind}
-use Rattle.script.specs.declared.kind.Kind.the-variants.{Residue, Circle}
-use Rattle.script.specs.declared.fault.Fault.{Fault}
-use Rattle.script.specs.declared.fault.Expected.the-variants as wants
+use Rattle.words.specs.declared.kind.Kind.{Kind}
+use Rattle.words.specs.declared.kind.Kind.the-variants.{Residue, Circle}
+use Rattle.words.specs.declared.fault.Fault.{Fault}
+use Rattle.words.specs.declared.fault.Expected.the-variants as wants
 use Rattle.script.specs.declared.questions.Question.{Question}
 use Rattle.script.specs.declared.group_commands.GroupCommand.{GroupCommand}
 use Rattle.script.specs.declared.group_commands.GroupCommand.the-variants.{MakeResidue, MakeCircle, Ask}
@@ -37,7 +37,7 @@ use Rattle.script.specs.declared.command.Command.the-variants as commands
 use Rattle.script.specs.declared.command.Reply.{Reply}
 use Rattle.script.specs.declared.command.Reply.the-variants as replies
 use Rattle.script.specs.declared.session.Session.{Session}
-use Rattle.script.specs.Words.{fault}
+use Rattle.words.specs.Words.{fault}
 use Rattle.script.specs.Questions.{answer-to}
 use Rattle.script.specs.ScalarCommands.{Comes-to}
 use Rattle.script.specs.Commands.{command-of}

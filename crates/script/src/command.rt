@@ -1,9 +1,6 @@
 // A line's command, and what comes of it.
 ghost use mathlib.Core.Path.{_≡_};
 ghost use Rattle.script.specs.Commands.{«command-of»};
-use crate::bytes::is;
-use crate::fault::Expected;
-use crate::fault::Fault;
 use crate::group_commands;
 use crate::group_commands::GroupCommand;
 use crate::group_commands::GroupReply;
@@ -12,8 +9,11 @@ use crate::scalar_commands;
 use crate::scalar_commands::ScalarCommand;
 use crate::scalar_commands::ScalarReply;
 use crate::scalar_commands::ScalarReplyDisplay;
-use crate::words::Words;
 use std::fmt;
+use words::Expected;
+use words::Fault;
+use words::Words;
+use words::is;
 
 #[derive(Clone, Copy)]
 pub enum Command {

@@ -1,17 +1,17 @@
 // Commands on groups: making one, and asking it.
 ghost use mathlib.Core.Path.{_≡_};
-ghost use Rattle.script.specs.Words.{«after-word», following};
+ghost use Rattle.words.specs.Words.{«after-word», following};
 ghost use Rattle.script.specs.GroupCommands.{«verb-of», «kind-at», «command-at», «group-command»};
-use crate::bytes::is;
-use crate::fault::Expected;
-use crate::fault::Fault;
-use crate::kind::Kind;
-use crate::kind::KindDisplay;
 use crate::questions::Question;
-use crate::words::Words;
 use refusals::Refusal;
 use refusals::RefusalDisplay;
 use std::fmt;
+use words::Expected;
+use words::Fault;
+use words::Kind;
+use words::KindDisplay;
+use words::Words;
+use words::is;
 
 #[derive(Clone, Copy)]
 pub enum GroupCommand {

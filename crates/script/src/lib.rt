@@ -1,33 +1,20 @@
 // Scripts: commands, one a line, that are read, obeyed in order and answered.
-mod bytes;
 mod command;
-mod fault;
 mod group_commands;
-mod kind;
-mod lines;
 mod questions;
 mod scalar_commands;
 mod session;
-mod words;
 
 pub use command::Command;
 pub use command::Reply;
 pub use command::ReplyDisplay;
 pub use command::read;
-pub use fault::Expected;
-pub use fault::Fault;
-pub use fault::FaultDisplay;
 pub use group_commands::GroupCommand;
 pub use group_commands::GroupReply;
 pub use group_commands::GroupReplyDisplay;
-pub use kind::Kind;
-pub use kind::KindDisplay;
-pub use lines::Lines;
-pub use lines::LinesIterator;
 pub use questions::Question;
 pub use scalar_commands::Operation;
 pub use scalar_commands::ScalarCommand;
 pub use scalar_commands::ScalarReply;
 pub use scalar_commands::ScalarReplyDisplay;
 pub use session::Session;
-pub use words::Words;

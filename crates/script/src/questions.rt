@@ -3,12 +3,12 @@ ghost use mathlib.Core.Path.{_≡_};
 ghost use lib.Dec.{T};
 ghost use Rattle.std.specs.Vec.{made};
 ghost use Rattle.script.specs.Questions.{«element-at», «answer-to»};
-use crate::fault::Expected;
-use crate::fault::Fault;
 use crate::group_commands::GroupReply;
-use crate::kind::Kind;
 use groups::Group;
 use groups::power;
+use words::Expected;
+use words::Fault;
+use words::Kind;
 
 // Elements are given by their two words.
 #[derive(Clone, Copy)]

@@ -1,12 +1,8 @@
 // Commands on scalars: a sum, a product or a quotient modulo q.
 ghost use mathlib.Core.Path.{_≡_};
 ghost use Prim.Native.Nat.{_<_};
-ghost use Rattle.script.specs.Words.{«after-word», following};
+ghost use Rattle.words.specs.Words.{«after-word», following};
 ghost use Rattle.script.specs.ScalarCommands.{«operation-at», «scalar-command», «scalar-at», Computed, Answered, «Comes-to»};
-use crate::bytes::is;
-use crate::fault::Expected;
-use crate::fault::Fault;
-use crate::words::Words;
 use fields::Field;
 use fields::Scalar;
 use fields::Scalars;
@@ -14,6 +10,10 @@ use fields::ScalarsField;
 use refusals::Refusal;
 use refusals::RefusalDisplay;
 use std::fmt;
+use words::Expected;
+use words::Fault;
+use words::Words;
+use words::is;
 
 #[derive(Clone, Copy)]
 pub enum Operation {

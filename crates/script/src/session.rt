@@ -4,11 +4,8 @@ ghost use Rattle.script.specs.Sessions.{model, fresh, «with-residue», «with
 use crate::command;
 use crate::command::Command;
 use crate::command::Reply;
-use crate::fault::Expected;
-use crate::fault::Fault;
 use crate::group_commands::GroupCommand;
 use crate::group_commands::GroupReply;
-use crate::kind::Kind;
 use crate::questions::Question;
 use crate::questions::ask;
 use crate::scalar_commands;
@@ -19,6 +16,9 @@ use groups::Residue;
 use groups::ResidueGroup;
 use groups::ResidueGroupGroup;
 use groups::ResidueGroupMonoid;
+use words::Expected;
+use words::Fault;
+use words::Kind;
 
 #[derive(Clone, Copy)]
 pub struct Session {

@@ -2,8 +2,8 @@ use mathlib.Core.Path.{_≡_, refl, sym, ap, subst, _∙_}
 use lib.Dec.{T}
 use Rattle.std.specs.Options.{okOr}
 use Rattle.std.specs.Vec.{made}
-use Rattle.script.specs.declared.fault.Expected.the-variants.{Element}
-use Rattle.script.specs.Words.{fault}
+use Rattle.words.specs.declared.fault.Expected.the-variants.{Element}
+use Rattle.words.specs.Words.{fault}
 use Rattle.script.proofs.Asking.{element-in}
 use Rattle.script.proofs.questions.element.Needs as need
 
