@@ -29,7 +29,7 @@ fn element<G: Group>(
     words: (u32, u32),
 ) -> Result<G::Element, Fault>
     ensures value { λ r. ⌜ r ≡ «element-at» (G·Group .group (now (group .entry))) kind place words ⌝ }
-    ensures member { λ r. ⌜ made r (λ x. T (G·Monoid .monoid (now (group .entry)) .member x)) ⌝ }
+    ensures member { λ r. ⌜ made r (λ x. T (G·Monoid .monoid (now (group .entry)) tt .member x)) ⌝ }
 {
     group.from_words(words).ok_or(Fault {
         place,
@@ -38,19 +38,19 @@ fn element<G: Group>(
 }
 
 pub fn ask<G: Group>(group: &G, kind: Kind, question: Question) -> Result<GroupReply, Fault>
-    ensures { λ r. ⌜ r ≡ «answer-to» (G·Monoid .monoid (now (group .entry))) (G·Group .group (now (group .entry))) kind question ⌝ }
+    ensures { λ r. ⌜ r ≡ «answer-to» (G·Monoid .monoid (now (group .entry)) tt) (G·Group .group (now (group .entry))) kind question ⌝ }
 {
     match question {
         Question::Element(a) => Ok(GroupReply::Element(group.from_words(a).is_some())),
         Question::Multiply(a, b) => {
             let x = element(group, kind, 3, a)?;
             let y = element(group, kind, 5, b)?;
-            let words = group.to_words(&group.product(&x, &y));
+            let words = group.to_words(&group.product((), &x, &y));
             Ok(GroupReply::Product(words.0, words.1))
         }
         Question::Power(a, exponent) => {
             let x = element(group, kind, 3, a)?;
-            let words = group.to_words(&power(group, &x, exponent));
+            let words = group.to_words(&power(group, (), &x, exponent));
             Ok(GroupReply::Power(words.0, words.1))
         }
     }

@@ -15,6 +15,6 @@ returns g c =
     record {
       value = is;
       member =
-          subst (λ r. made r (λ x. T (g .G·Monoid .monoid s .member x))) (sym is)
+          subst (λ r. made r (λ x. T (g .G·Monoid .monoid s tt .member x))) (sym is)
           (element-in (g .G·Group·met .lawful s) (c .args .words) why (g .G·Group .group s .reads (c .args .words)) refl);
     }
