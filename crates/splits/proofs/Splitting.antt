@@ -5,14 +5,13 @@ use mathlib.Core.Path.{_≡_, refl, sym, ap, ap₂, _∙_, subst}
 use mathlib.Core.Bool.{Bool, true, false, cond}
 use mathlib.Core.List.{List, [], _∷_, _++_}
 use Prim.Native.Nat.{ℕ, zero, suc, _+_, _-_, _≤_, _<_, zero-le, suc-le-suc}
-use native.Mathlib.Nat.{suc-inj, not-suc-le-zero, le-of-suc-le-suc}
+use native.Mathlib.Nat.{le-of-suc-le-suc}
 use native.Mathlib.Omega.{arith}
 use lib.Dec.{T}
 use lib.ListN.{length, getD, take, set}
 use Rattle.std.proofs.shelf.Lists.{ext-getD}
 use Rattle.fields.specs.Fields.{FieldModel, FieldLaws}
 use Rattle.polynomials.specs.Polynomials.{value, Members, Apart, Passes, Polynomial, newton}
-use Rattle.polynomials.proofs.Roots.{All, Distinct}
 use Rattle.polynomials.proofs.Carried.{value-in}
 use Rattle.splits.specs.Gates.{Balanced, Agree}
 use Rattle.splits.specs.Marks.{missing, marked, points-from}
