@@ -84,7 +84,7 @@ returns g c =
     let after = c .fill .last .children in
     let after-long : length after ≡ length given = c .fill .kept .children in
     let solved = solved-from laws own known given long few (take count (c .pick-count .last .to)) (take count (c .pick .last .to)) cs (take count (cs ++ rest)) points after
-    ns-are vs-are cs-are (c .pre .points) (c .interpolate .ensures .polynomial) (c .interpolate .ensures .passes) (c .interpolate .ensures .only) (c .fill .ensures) in
+    ns-are vs-are cs-are (c .pre .points) (c .interpolate .ensures .polynomial) (c .interpolate .ensures .passes) (c .fill .ensures) in
     record {
       elements = is-in laws own known given long few cs after after-long solved;
       balanced = is-balanced laws own known given long few cs after after-long solved;
