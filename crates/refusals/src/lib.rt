@@ -33,6 +33,32 @@ pub enum Refusal {
     OrdersDiffer,
     // the sides of a join have more than 255 kinds together
     TooManyKinds,
+    // a rule's text has no byte, or more than 240
+    TextLength,
+    // the grammar of rules allows no such byte here, or the text ends too early
+    Unexpected(u8),
+    // a key's number is not from 1 to 255, or begins with a zero
+    KeyNumber(u8),
+    // a gate's digit is not from 2 to 7
+    GateDigit(u8),
+    // an item stands nine deep
+    TooDeep(u8),
+    // the seventeenth key
+    TooManyKeys(u8),
+    // a gate's ninth item
+    TooManyItems(u8),
+    // a gate closes after one item, or with a digit that is not below the number of its items
+    TooFewItems(u8),
+    // a key's number stands in no line of the ring
+    NotInRing(u8),
+    // a ring has 1 to 16 lines of 18 bytes
+    RingLength,
+    // a line's number is not above the number before it
+    NotRising(u8),
+    // a line's kind is unknown, or its image is no image of that kind
+    NoImage(u8),
+    // an output is not as long as what is to be written
+    OutputLength,
 }
 
 impl Parameter {
@@ -69,6 +95,19 @@ impl Refusal {
             Refusal::UnfitBase(_) => 4,
             Refusal::OrdersDiffer => 5,
             Refusal::TooManyKinds => 5,
+            Refusal::TextLength => 6,
+            Refusal::Unexpected(_) => 7,
+            Refusal::KeyNumber(_) => 8,
+            Refusal::GateDigit(_) => 8,
+            Refusal::TooDeep(_) => 9,
+            Refusal::TooManyKeys(_) => 9,
+            Refusal::TooManyItems(_) => 9,
+            Refusal::TooFewItems(_) => 9,
+            Refusal::NotInRing(_) => 10,
+            Refusal::RingLength => 11,
+            Refusal::NotRising(_) => 12,
+            Refusal::NoImage(_) => 13,
+            Refusal::OutputLength => 21,
         }
     }
 
@@ -83,6 +122,19 @@ impl Refusal {
             Refusal::UnfitBase(base) => base.place(),
             Refusal::OrdersDiffer => 1,
             Refusal::TooManyKinds => 2,
+            Refusal::TextLength => 0,
+            Refusal::Unexpected(byte) => byte as u32,
+            Refusal::KeyNumber(byte) => byte as u32,
+            Refusal::GateDigit(byte) => byte as u32,
+            Refusal::TooDeep(byte) => byte as u32,
+            Refusal::TooManyKeys(byte) => byte as u32,
+            Refusal::TooManyItems(byte) => byte as u32,
+            Refusal::TooFewItems(byte) => byte as u32,
+            Refusal::NotInRing(byte) => byte as u32,
+            Refusal::RingLength => 0,
+            Refusal::NotRising(line) => line as u32,
+            Refusal::NoImage(line) => line as u32,
+            Refusal::OutputLength => 0,
         }
     }
 
@@ -102,6 +154,19 @@ impl Refusal {
                 "the base h is no element of the group, or is neutral",
             Refusal::OrdersDiffer => "the two sets of a join differ in their order q",
             Refusal::TooManyKinds => "the two sets of a join have more than 255 kinds together",
+            Refusal::TextLength => "the rule's text has no byte, or more than 240",
+            Refusal::Unexpected(_) => "a rule does not go on with this byte, or ends too early",
+            Refusal::KeyNumber(_) => "a key's number is from 1 to 255, without leading zeros",
+            Refusal::GateDigit(_) => "a gate's digit is from 2 to 7",
+            Refusal::TooDeep(_) => "an item stands more than 8 deep",
+            Refusal::TooManyKeys(_) => "a rule has at most 16 keys",
+            Refusal::TooManyItems(_) => "a gate has at most 8 items",
+            Refusal::TooFewItems(_) => "a gate has at least 2 items, and more than its digit",
+            Refusal::NotInRing(_) => "the key's number stands in no line of the ring",
+            Refusal::RingLength => "a ring has 1 to 16 lines of 18 bytes",
+            Refusal::NotRising(_) => "the line's number is not above the one before it",
+            Refusal::NoImage(_) => "the line's kind is unknown, or its four words are no image of that kind",
+            Refusal::OutputLength => "the output is not as long as what is to be written",
         }
     }
 }

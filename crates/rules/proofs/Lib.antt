@@ -1,0 +1,13 @@
+pub mod Lists
+pub mod Rows
+pub mod Steps
+pub mod Decimal
+pub mod Items
+pub mod Complete
+pub mod Sound
+pub mod Tables
+pub mod Form
+pub mod Parents
+pub mod Lawful
+pub mod Spelling
+pub mod Whole
