@@ -5,13 +5,14 @@
 --   multiples-set q g n  n kinds; kind k is that of the base k times g
 --   is-base q g          g is from 1 to q - 1
 --   Refused q g why      why the set is not made: the first of what is wrong with q, then with g
+use mathlib.Core.Path.{_≡_}
 use mathlib.Core.Bool.{Bool, not, cond, _&&_}
 use Prim.Native.Nat.{ℕ}
 use lib.Dec.{T, eqb, ltb, leb}
 use Rattle.refusals.specs.declared.Refusal.{Refusal}
-use Rattle.refusals.specs.declared.Refusal.the-variants.{OutOfRange, NotListed, NotPrime, NoSuchGroup, UnfitBase, OrdersDiffer, TooManyKinds}
-use Rattle.refusals.specs.declared.Parameter.the-variants.{Order, Modulus}
-use Rattle.refusals.specs.declared.Base.the-variants.{First, Second}
+use Rattle.refusals.specs.declared.Refusal.the-variants.{OutOfRange, NotPrime, UnfitBase}
+use Rattle.refusals.specs.declared.Parameter.the-variants.{Order}
+use Rattle.refusals.specs.declared.Base.the-variants.{First}
 use Rattle.fields.specs.Primes.{Prime, in-range}
 use Rattle.fields.specs.Modular.{sum-mod, product-mod}
 use Rattle.kinds.specs.Kinds.{zeros, Kind, no-kind, is-key, KindModel}
@@ -42,13 +43,7 @@ multiples-set q g n = record {
 abbrev pub is-base : ℕ → ℕ → Bool
 is-base q g = ltb 0 g && ltb g q
 
-abbrev pub Refused : ℕ → ℕ → Refusal → Type 0
-Refused q g (OutOfRange Order) = T (not (in-range q))
-Refused q g (OutOfRange Modulus) = ⊥
-Refused q g (NotListed x) = ⊥
-Refused q g NotPrime = T (in-range q) × (Prime q → ⊥)
-Refused q g NoSuchGroup = ⊥
-Refused q g (UnfitBase First) = T (in-range q) × Prime q × T (not (is-base q g))
-Refused q g (UnfitBase Second) = ⊥
-Refused q g OrdersDiffer = ⊥
-Refused q g TooManyKinds = ⊥
+pub record Refused (q g : ℕ) (why : Refusal) : Type 0 where
+  pub out-of-range : T (not (in-range q)) → why ≡ OutOfRange Order
+  pub no-prime : T (in-range q) → (Prime q → ⊥) → why ≡ NotPrime
+  pub no-base : T (in-range q) → Prime q → (why ≡ UnfitBase First) × T (not (is-base q g))

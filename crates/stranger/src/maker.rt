@@ -13,7 +13,10 @@ impl Multiples {
     pub fn new(q: u32, g: u32, count: u8) -> Result<Multiples, Refusal>
         ensures { λ r. ⌜ Cases r (λ s. (s .scalars .q ≡ q) × (s .base .0 ≡ g) × (s .count ≡ count)) (Refused q g) ⌝ }
     {
-        let scalars = Scalars::new(q)?;
+        let scalars = match Scalars::new(q) {
+            Ok(scalars) => scalars,
+            Err(why) => return Err(why),
+        };
         if g == 0 || g >= q {
             return Err(Refusal::UnfitBase(Base::First));
         }
