@@ -45,60 +45,67 @@ mod tests {
         (image.0, image.1)
     }
 
-    // The words of the image of (u, v).
-    fn of_key<S: LeafKinds>(set: &S, kind: u8, u: u32, v: u32) -> Words {
-        words(key_image(set, kind, key(u, v)))
+    // What a question answers where the set could not be made.
+    const UNMADE: Words = ((7, 7), (7, 7));
+
+    // The image of (u, v) under one of the six kinds.
+    fn image(kind: u8, u: u32, v: u32) -> Words {
+        match six() {
+            Some(set) => words(key_image(&set, kind, key(u, v))),
+            None => UNMADE,
+        }
     }
 
-    fn product<S: LeafKinds>(set: &S, kind: u8, a: Words, b: Words) -> Words {
-        words(image_product(
-            set,
-            kind,
-            &Image(a.0, a.1),
-            &Image(b.0, b.1),
-        ))
+    fn product(kind: u8, a: Words, b: Words) -> Words {
+        match six() {
+            Some(set) => words(image_product(&set, kind, &Image(a.0, a.1), &Image(b.0, b.1))),
+            None => UNMADE,
+        }
     }
 
-    fn power<S: LeafKinds>(set: &S, kind: u8, a: Words, exponent: u32) -> Words {
-        words(image_power(set, kind, &Image(a.0, a.1), exponent))
+    fn power(kind: u8, a: Words, exponent: u32) -> Words {
+        match six() {
+            Some(set) => words(image_power(&set, kind, &Image(a.0, a.1), exponent)),
+            None => UNMADE,
+        }
     }
 
     #[test]
     fn images_of_keys() -> Result<(), Fail> {
-        let Some(set) = six() else {
-            return Err(Fail::new("no set"));
-        };
-        check(of_key(&set, 1, 5, 0) == ((12, 0), (0, 0)))?;
-        check(of_key(&set, 2, 5, 0) == ((12, 0), (8, 0)))?;
-        check(of_key(&set, 3, 3, 7) == ((3, 0), (0, 0)))?;
-        check(of_key(&set, 4, 3, 0) == ((26, 23), (0, 0)))?;
-        check(of_key(&set, 5, 3, 0) == ((26, 23), (7, 34)))?;
-        check(of_key(&set, 6, 1, 2) == ((11, 3), (0, 0)))?;
-        // a second scalar at width 1, and scalars that are not below q
-        check(of_key(&set, 2, 5, 1) == ZEROS)?;
-        check(of_key(&set, 1, 11, 0) == ZEROS)?;
-        check(of_key(&set, 6, 1, 11) == ZEROS)?;
-        check(of_key(&set, 7, 0, 0) == ZEROS)
+        check(image(1, 5, 0) == ((12, 0), (0, 0)))?;
+        check(image(2, 5, 0) == ((12, 0), (8, 0)))?;
+        check(image(3, 3, 7) == ((3, 0), (0, 0)))?;
+        check(image(4, 3, 0) == ((26, 23), (0, 0)))?;
+        check(image(5, 3, 0) == ((26, 23), (7, 34)))?;
+        check(image(6, 1, 2) == ((11, 3), (0, 0)))
+    }
+
+    // A second scalar at width 1, scalars that are not below q, a number that no kind has.
+    #[test]
+    fn no_keys() -> Result<(), Fail> {
+        check(image(2, 5, 1) == ZEROS)?;
+        check(image(1, 11, 0) == ZEROS)?;
+        check(image(6, 1, 11) == ZEROS)?;
+        check(image(7, 0, 0) == ZEROS)
+    }
+
+    // 5 is no element of the residue group.
+    #[test]
+    fn products() -> Result<(), Fail> {
+        check(product(2, ((12, 0), (8, 0)), ((4, 0), (9, 0))) == ((2, 0), (3, 0)))?;
+        check(product(6, ((11, 3), (0, 0)), ((2, 13), (0, 0))) == ((26, 20), (0, 0)))?;
+        check(product(1, ((5, 0), (0, 0)), ((12, 0), (0, 0))) == ZEROS)?;
+        check(product(1, ((12, 0), (0, 0)), ((5, 0), (0, 0))) == ZEROS)?;
+        check(product(0, ((12, 0), (0, 0)), ((12, 0), (0, 0))) == ZEROS)
     }
 
     #[test]
-    fn products_and_powers() -> Result<(), Fail> {
-        let Some(set) = six() else {
-            return Err(Fail::new("no set"));
-        };
-        check(product(&set, 2, ((12, 0), (8, 0)), ((4, 0), (9, 0))) == ((2, 0), (3, 0)))?;
-        check(product(&set, 6, ((11, 3), (0, 0)), ((2, 13), (0, 0))) == ((26, 20), (0, 0)))?;
-        // 5 is no element of the residue group
-        check(product(&set, 1, ((5, 0), (0, 0)), ((12, 0), (0, 0))) == ZEROS)?;
-        check(product(&set, 1, ((12, 0), (0, 0)), ((5, 0), (0, 0))) == ZEROS)?;
-        check(product(&set, 2, ((12, 0), (8, 0)), ((4, 0), (5, 0))) == ZEROS)?;
-        check(product(&set, 0, ((12, 0), (0, 0)), ((12, 0), (0, 0))) == ZEROS)?;
-        check(power(&set, 1, ((12, 0), (0, 0)), 7) == ((16, 0), (0, 0)))?;
-        check(power(&set, 2, ((12, 0), (8, 0)), 3) == ((3, 0), (6, 0)))?;
-        check(power(&set, 6, ((11, 3), (0, 0)), 11) == ((1, 0), (0, 0)))?;
-        check(power(&set, 1, ((5, 0), (0, 0)), 0) == ((1, 0), (0, 0)))?;
-        check(power(&set, 1, ((5, 0), (0, 0)), 4294967295) == ZEROS)?;
-        check(power(&set, 255, ((12, 0), (0, 0)), 0) == ZEROS)
+    fn powers() -> Result<(), Fail> {
+        check(power(1, ((12, 0), (0, 0)), 7) == ((16, 0), (0, 0)))?;
+        check(power(2, ((12, 0), (8, 0)), 3) == ((3, 0), (6, 0)))?;
+        check(power(6, ((11, 3), (0, 0)), 11) == ((1, 0), (0, 0)))?;
+        check(power(1, ((5, 0), (0, 0)), 0) == ((1, 0), (0, 0)))?;
+        check(power(1, ((5, 0), (0, 0)), 4294967295) == ZEROS)
     }
 
     fn width_by_hand(kind: u8) -> u8 {
@@ -117,87 +124,142 @@ mod tests {
         }
     }
 
+    fn width(kind: u8) -> u8 {
+        match six() {
+            Some(set) => set.width(kind),
+            None => 7,
+        }
+    }
+
+    fn neutral(kind: u8) -> Words {
+        match six() {
+            Some(set) => words(neutral_image(&set, kind)),
+            None => UNMADE,
+        }
+    }
+
+    fn is_image(kind: u8, a: Words) -> bool {
+        match six() {
+            Some(set) => set.is_image(kind, &Image(a.0, a.1)),
+            None => false,
+        }
+    }
+
     #[test]
     fn all_kind_numbers() -> Result<(), Fail> {
-        let Some(set) = six() else {
-            return Err(Fail::new("no set"));
-        };
-        check(set.order() == 11 && set.count() == 6)?;
         for number in 0..256u32 {
             let kind = number as u8;
-            let known = kind > 0 && kind < 7;
-            let neutral = neutral_by_hand(kind);
-            check(set.width(kind) == width_by_hand(kind))?;
-            check(words(neutral_image(&set, kind)) == neutral)?;
-            check(set.is_image(kind, &Image(neutral.0, neutral.1)) == known)?;
-            check(!set.is_image(kind, &Image((0, 0), (0, 0))))?;
-            check(is_key(&set, kind, key(10, 0)) == known)?;
-            check(of_key(&set, kind, 0, 0) == neutral)?;
+            check(width(kind) == width_by_hand(kind))?;
+            check(neutral(kind) == neutral_by_hand(kind))?;
+            check(image(kind, 0, 0) == neutral_by_hand(kind))?;
+            check(is_image(kind, neutral_by_hand(kind)) == (kind > 0 && kind < 7))?;
+            check(!is_image(kind, ZEROS))?;
         }
         Ok(())
     }
 
-    // The refusal's number and place, or 0 and 0 where the join is made.
-    fn told(a: Option<Multiples>, b: Option<Multiples>) -> Option<(u8, u32)> {
-        match Join::new(a?, b?) {
-            Ok(_) => Some((0, 0)),
-            Err(refusal) => Some((refusal.number(), refusal.place())),
+    // A refusal's number and place.
+    fn number_and_place(refusal: Refusal) -> (u8, u32) {
+        (refusal.number(), refusal.place())
+    }
+
+    // What a join of multiples tells: two of the orders q and r with so many kinds each; 0 and 0 where it is made.
+    fn told(q: u32, m: u8, r: u32, n: u8) -> (u8, u32) {
+        let Ok(left) = Multiples::new(q, 2, m) else {
+            return (7, 7);
+        };
+        let Ok(right) = Multiples::new(r, 2, n) else {
+            return (7, 7);
+        };
+        match Join::new(left, right) {
+            Ok(_) => (0, 0),
+            Err(refusal) => number_and_place(refusal),
         }
     }
 
-    fn many(q: u32, count: u8) -> Option<Multiples> {
-        Multiples::new(q, 2, count).ok()
-    }
-
-    // The same of a residue group of order 13 and the circle group of order 11.
-    fn told_of_orders() -> Option<(u8, u32)> {
-        let other = ResidueGroup::new(13, 53, Residue::new(16), Residue::new(28)).ok()?;
-        match supplied(other, circle()?) {
-            Ok(_) => Some((0, 0)),
-            Err(refusal) => Some((refusal.number(), refusal.place())),
+    // What the supplied set tells of a residue group of order 13 and the circle group of order 11.
+    fn told_of_orders() -> (u8, u32) {
+        let Ok(other) = ResidueGroup::new(13, 53, Residue::new(16), Residue::new(28)) else {
+            return (7, 7);
+        };
+        let Some(circle) = circle() else {
+            return (7, 7);
+        };
+        match supplied(other, circle) {
+            Ok(_) => (0, 0),
+            Err(refusal) => number_and_place(refusal),
         }
     }
 
     #[test]
     fn refused_joins() -> Result<(), Fail> {
-        check(told(many(11, 200), many(11, 55)) == Some((0, 0)))?;
-        check(told(many(11, 200), many(11, 56)) == Some((5, 2)))?;
-        check(told(many(11, 255), many(11, 255)) == Some((5, 2)))?;
-        check(told(many(11, 1), many(101, 1)) == Some((5, 1)))?;
-        check(told(many(101, 200), many(11, 200)) == Some((5, 1)))?;
-        check(told_of_orders() == Some((5, 1)))
+        check(told(11, 200, 11, 55) == (0, 0))?;
+        check(told(11, 200, 11, 56) == (5, 2))?;
+        check(told(11, 255, 11, 255) == (5, 2))?;
+        check(told(11, 1, 101, 1) == (5, 1))?;
+        check(told(101, 200, 11, 200) == (5, 1))?;
+        check(told_of_orders() == (5, 1))
     }
 
+    // What the maker of multiples tells.
     fn unmade(q: u32, g: u32) -> (u8, u32) {
         match Multiples::new(q, g, 1) {
             Ok(_) => (0, 0),
-            Err(refusal) => (refusal.number(), refusal.place()),
+            Err(refusal) => number_and_place(refusal),
+        }
+    }
+
+    #[test]
+    fn refused_multiples() -> Result<(), Fail> {
+        check(unmade(101, 100) == (0, 0))?;
+        check(unmade(101, 101) == (4, 3))?;
+        check(unmade(101, 0) == (4, 3))?;
+        check(unmade(7, 1) == (1, 1))?;
+        check(unmade(91, 0) == (2, 1))
+    }
+
+    // Three kinds modulo 101 with the base 7.
+    fn multiple(kind: u8, w: u32) -> Words {
+        match Multiples::new(101, 7, 3) {
+            Ok(set) => words(key_image(&set, kind, key(w, 0))),
+            Err(_) => UNMADE,
+        }
+    }
+
+    fn sum(kind: u8, a: u32, b: u32) -> Words {
+        match Multiples::new(101, 7, 3) {
+            Ok(set) => words(image_product(
+                &set,
+                kind,
+                &Image((a, 0), (0, 0)),
+                &Image((b, 0), (0, 0)),
+            )),
+            Err(_) => UNMADE,
+        }
+    }
+
+    // Three kinds modulo 11 with the base 7, then the single kind over the residue group.
+    fn beside(kind: u8, w: u32) -> Words {
+        let Ok(left) = Multiples::new(11, 7, 3) else {
+            return UNMADE;
+        };
+        let Some(group) = residues() else {
+            return UNMADE;
+        };
+        match Join::new(left, Single { group }) {
+            Ok(set) => words(key_image(&set, kind, key(w, 0))),
+            Err(_) => UNMADE,
         }
     }
 
     #[test]
     fn multiples() -> Result<(), Fail> {
-        check(unmade(101, 100) == (0, 0) && unmade(101, 101) == (4, 3))?;
-        check(unmade(101, 0) == (4, 3) && unmade(7, 1) == (1, 1) && unmade(91, 0) == (2, 1))?;
-        let Some(set) = Multiples::new(101, 7, 3).ok() else {
-            return Err(Fail::new("no set"));
-        };
-        check(of_key(&set, 2, 9, 0) == ((25, 0), (0, 0)))?;
-        check(product(&set, 3, ((100, 0), (0, 0)), ((2, 0), (0, 0))) == ((1, 0), (0, 0)))?;
-        check(power(&set, 1, ((5, 0), (0, 0)), 101) == ZEROS)?;
-        check(of_key(&set, 4, 9, 0) == ZEROS && set.is_image(3, &Image((0, 0), (0, 0))))?;
-        let Some(left) = Multiples::new(11, 7, 3).ok() else {
-            return Err(Fail::new("no left side"));
-        };
-        let Some(right) = six() else {
-            return Err(Fail::new("no right side"));
-        };
-        let Some(both) = Join::new(left, right).ok() else {
-            return Err(Fail::new("no join"));
-        };
-        check(both.count() == 9 && of_key(&both, 3, 5, 0) == ((6, 0), (0, 0)))?;
-        check(of_key(&both, 5, 5, 0) == ((12, 0), (8, 0)))?;
-        check(of_key(&both, 9, 1, 2) == ((11, 3), (0, 0)))?;
-        check(of_key(&both, 10, 1, 2) == ZEROS)
+        check(multiple(2, 9) == ((25, 0), (0, 0)))?;
+        check(multiple(4, 9) == ZEROS)?;
+        check(sum(3, 100, 2) == ((1, 0), (0, 0)))?;
+        check(sum(3, 100, 101) == ZEROS)?;
+        check(beside(3, 5) == ((6, 0), (0, 0)))?;
+        check(beside(4, 5) == ((12, 0), (0, 0)))?;
+        check(beside(5, 5) == ZEROS)
     }
 }
