@@ -17,23 +17,36 @@ reference vectors NUMBER COUNT [FOLDER]       a script of COUNT commands and its
                                               and stdout of FOLDER, or both on the standard output
 reference same NUMBER COUNT FOLDER            whether FOLDER's stdin and stdout are those that vectors writes
 reference cover NUMBER COUNT                  which replies and refusals such a script has
-reference compare NUMBER COUNT [PATH] [WORDS] runs PATH (target/bin/release) and this program on random scripts
-                                              WORDS: exact, words or lines; arithmetic or all
+reference compare NUMBER COUNT [PATH] [CARE]  runs PATH (target/bin/release) and this program on random scripts;
+                                              CARE is exact, words or lines
 reference speed                               takes times
+The word `arithmetic` at the end leaves out all commands but those on groups, elements and scalars.
 ";
 
 /// A NUMBER starts the random numbers: the same one gives the same scripts.
 struct Arguments {
     number: u64,
     count: usize,
-    others: Vec<String>,
+    path: Option<String>,
+    care: Care,
+    scope: Scope,
 }
 
 fn arguments(words: &[String]) -> Option<Arguments> {
     let [number, count, others @ ..] = words else {
         return None;
     };
-    Some(Arguments { number: number.parse().ok()?, count: count.parse().ok()?, others: others.to_vec() })
+    let (number, count) = (number.parse().ok()?, count.parse().ok()?);
+    let mut arguments = Arguments { number, count, path: None, care: Care::Exact, scope: Scope::All };
+    for word in others {
+        match (Care::named(word), Scope::named(word)) {
+            (Some(named), _) => arguments.care = named,
+            (_, Some(named)) => arguments.scope = named,
+            _ if arguments.path.is_none() => arguments.path = Some(word.clone()),
+            _ => return None,
+        }
+    }
+    Some(arguments)
 }
 
 fn run() -> io::Result<bool> {
@@ -44,8 +57,8 @@ fn run() -> io::Result<bool> {
 }
 
 fn write_vectors(arguments: &Arguments) -> io::Result<bool> {
-    let Vectors { script, output } = vectors(arguments.number, arguments.count, Scope::All);
-    if let [folder, ..] = arguments.others.as_slice() {
+    let Vectors { script, output } = vectors(arguments.number, arguments.count, arguments.scope);
+    if let Some(folder) = &arguments.path {
         fs::create_dir_all(folder)?;
         fs::write(Path::new(folder).join("stdin"), script)?;
         fs::write(Path::new(folder).join("stdout"), output)?;
@@ -60,8 +73,8 @@ fn write_vectors(arguments: &Arguments) -> io::Result<bool> {
 }
 
 fn same_vectors(arguments: &Arguments) -> io::Result<bool> {
-    let Vectors { script, output } = vectors(arguments.number, arguments.count, Scope::All);
-    let folder = arguments.others.first().map_or(".", String::as_str);
+    let Vectors { script, output } = vectors(arguments.number, arguments.count, arguments.scope);
+    let folder = arguments.path.as_deref().unwrap_or(".");
     let script_same = fs::read(Path::new(folder).join("stdin"))? == script;
     let output_same = fs::read(Path::new(folder).join("stdout"))? == output.as_bytes();
     println!("stdin {}", if script_same { "is the same" } else { "differs" });
@@ -70,7 +83,7 @@ fn same_vectors(arguments: &Arguments) -> io::Result<bool> {
 }
 
 fn cover(arguments: &Arguments) -> io::Result<bool> {
-    let output = vectors(arguments.number, arguments.count, Scope::All).output;
+    let output = vectors(arguments.number, arguments.count, arguments.scope).output;
     for (class, count) in classes(&output) {
         if !class.starts_with("refused") {
             println!("{count:>7} {class}");
@@ -94,16 +107,8 @@ fn show(failure: &Failure) -> io::Result<()> {
 }
 
 fn compare(arguments: &Arguments) -> io::Result<bool> {
-    let mut path = "target/bin/release".to_string();
-    let (mut care, mut scope) = (Care::Exact, Scope::All);
-    for word in &arguments.others {
-        match (Care::named(word), Scope::named(word)) {
-            (Some(named), _) => care = named,
-            (_, Some(named)) => scope = named,
-            _ => path = word.clone(),
-        }
-    }
-    let comparison = Comparison { path: &path, care, scope };
+    let path = arguments.path.as_deref().unwrap_or("target/bin/release");
+    let comparison = Comparison { path, care: arguments.care, scope: arguments.scope };
     let outcome = comparison.run(arguments.number, arguments.count)?;
     println!("{} commands, {} lines of output without a difference", outcome.commands, outcome.replies);
     match &outcome.failure {

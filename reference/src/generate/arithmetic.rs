@@ -73,6 +73,8 @@ impl Generator {
     }
 
     fn no_base(&mut self, shape: Shape, x: Element, p: u64) -> Element {
+        // A fault before this one may have made the modulus too small.
+        let p = p.max(2);
         match self.random.below(8) {
             0 => NEUTRAL,
             1 => (0, 0),

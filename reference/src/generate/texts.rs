@@ -120,7 +120,7 @@ impl Generator {
     /// Texts with a fault that a row of the table names.
     fn told_text(&mut self) -> String {
         let before = self.before();
-        let fault = match self.random.below(12) {
+        let fault = match self.random.below(14) {
             0 => self.random.pick(&["K0", "K00", "K01", "K256", "K999", "K1000", "K4294967297"]).to_string(),
             1 => format!("{}of(K1,K2,K3)", self.random.pick(&[0, 1, 8, 9])),
             2 => self.deep(9),
@@ -139,9 +139,29 @@ impl Generator {
             8 => self.random.pick(&["", "K", "a", "al", "all", "an", "any", "2", "2o", "2of", "all(", "K1,", "K1)"]).to_string(),
             9 => self.random.pick(&["all()", "any(,)", "any(K1,)", "any(,K1)", "2of()", "any(K1,K2))", "any(K1K2)"]).to_string(),
             10 => return self.long_text(),
+            11 | 12 => return self.with_bad_number(),
             _ => self.random.pick(&["ALL(K1,K2)", "k1", "any (K1,K2)", "any(K1, K2)", "any(K1 ,K2)", "aly(K1,K2)", "2ox(K1"]).to_string(),
         };
         format!("{before}{fault}")
+    }
+
+    /// A text that reads well but for one number of a key, or one digit of a gate.
+    fn with_bad_number(&mut self) -> String {
+        let leaves = self.random.from_to(2, 16) as usize;
+        let text = self.item(leaves, 1);
+        let sign = self.random.pick(&["K", "K", "of("]);
+        let places: Vec<usize> = text.match_indices(sign).map(|(place, _)| place).collect();
+        if places.is_empty() {
+            return text;
+        }
+        let at = self.random.pick(&places);
+        if sign == "K" {
+            let bad = self.random.pick(&["0", "00", "0", "300", "256", "25555"]);
+            let rest = text[at + 1..].trim_start_matches(|digit: char| digit.is_ascii_digit());
+            return format!("{}K{bad}{rest}", &text[..at]);
+        }
+        let bad = self.random.pick(&["0", "1", "8", "9"]);
+        format!("{}{bad}{}", &text[..at - 1], &text[at..])
     }
 
     /// About 240 bytes.
