@@ -13,11 +13,11 @@ impl Random {
     /// A stream of its own for each part of a run.
     pub fn part(number: u64, part: u64) -> Random {
         let mut random = Random::new(number);
-        let start = random.next();
+        let start = random.draw();
         Random::new(start ^ part.wrapping_mul(0x9E37_79B9_7F4A_7C15))
     }
 
-    pub fn next(&mut self) -> u64 {
+    pub fn draw(&mut self) -> u64 {
         self.state = self.state.wrapping_add(0x9E37_79B9_7F4A_7C15);
         let mut z = self.state;
         z = (z ^ (z >> 30)).wrapping_mul(0xBF58_476D_1CE4_E5B9);
@@ -26,7 +26,7 @@ impl Random {
     }
 
     pub fn below(&mut self, bound: u64) -> u64 {
-        self.next() % bound
+        self.draw() % bound
     }
 
     pub fn from_to(&mut self, low: u64, high: u64) -> u64 {
@@ -54,7 +54,7 @@ mod tests {
     #[test]
     fn the_published_first_numbers() {
         let mut random = Random::new(1_234_567);
-        assert_eq!(random.next(), 6_457_827_717_110_365_317);
-        assert_eq!(random.next(), 3_203_168_211_198_807_973);
+        assert_eq!(random.draw(), 6_457_827_717_110_365_317);
+        assert_eq!(random.draw(), 3_203_168_211_198_807_973);
     }
 }

@@ -35,7 +35,7 @@ fn line_of(bytes: &[u8]) -> Line {
 pub fn read(bytes: &[u8], set: &Set) -> Result<Vec<Line>, Refusal> {
     let whole = bytes.len() % LINE == 0;
     let count = bytes.len() / LINE;
-    if !whole || count < 1 || count > MOST_LINES {
+    if !whole || !(1..=MOST_LINES).contains(&count) {
         return refuse(11, 0);
     }
     let lines: Vec<Line> = bytes.chunks(LINE).map(line_of).collect();

@@ -638,7 +638,10 @@ mod tests {
 
     #[test]
     fn lines_that_do_not_fit() {
-        assert_eq!(run(b"\n # only a comment\n \t\r\nscalar add 11 1"), "line 4: expected word 5 to be a number from 0 to 4294967295\n");
+        assert_eq!(
+            run(b"\n # only a comment\n \t\r\nscalar add 11 1"),
+            "line 4: expected word 5 to be a number from 0 to 4294967295\n"
+        );
         assert_eq!(last("scalar add 11 1 2 3"), "line 3: expected no word 6");
         assert_eq!(last("scalar add 011 1 0000000000002#3"), "sum 3");
         assert!(last("gate split 11 9 1 1").starts_with("line 3: expected word 4 "));

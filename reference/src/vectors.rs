@@ -89,10 +89,13 @@ mod tests {
     fn replies_in_fair_shares() {
         let output = vectors(2, 6000, Scope::All).output;
         let counts = classes(&output);
-        let refused: usize = counts.iter().filter(|(name, _)| name.starts_with("refused")).map(|(_, n)| n).sum();
+        let refused: usize =
+            counts.iter().filter(|(name, _)| name.starts_with("refused")).map(|(_, n)| n).sum();
         let misfits = counts["line that does not fit"];
         assert!(refused > 600 && misfits > 600, "{refused} {misfits}");
-        for reply in ["made", "element", "product", "power", "sum", "quotient", "set", "image", "rule", "text"] {
+        for reply in
+            ["made", "element", "product", "power", "sum", "quotient", "set", "image", "rule", "text"]
+        {
             assert!(counts[reply] >= 5, "{reply}");
         }
         for reply in ["challenges", "ring", "leaf", "children", "balanced"] {

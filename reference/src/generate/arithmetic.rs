@@ -6,13 +6,40 @@ use crate::kinds::{Image, Set};
 use crate::scalars::{is_prime, HIGHEST, LOWEST};
 
 const ODD_NUMBERS: [u64; 18] = [
-    0, 1, 2, 10, 11, 12, 15, 22, 23, 25, 331, 65_536, 166_667, 2_147_483_646, 2_147_483_647, 2_147_483_648,
-    4_294_967_294, 4_294_967_295,
+    0,
+    1,
+    2,
+    10,
+    11,
+    12,
+    15,
+    22,
+    23,
+    25,
+    331,
+    65_536,
+    166_667,
+    2_147_483_646,
+    2_147_483_647,
+    2_147_483_648,
+    4_294_967_294,
+    4_294_967_295,
 ];
 
 /// In range and no prime: squares, products of two primes, and one that passes Fermat's test.
 const NO_PRIMES: [u64; 12] = [
-    12, 15, 21, 25, 121, 561, 1_000_001, 2_146_654_199, 2_147_117_569, 2_147_483_645, 2_147_483_646, 1_373_653,
+    12,
+    15,
+    21,
+    25,
+    121,
+    561,
+    1_000_001,
+    2_146_654_199,
+    2_147_117_569,
+    2_147_483_645,
+    2_147_483_646,
+    1_373_653,
 ];
 
 fn words(values: &[u64]) -> String {
@@ -226,7 +253,9 @@ impl Generator {
         let q = q.max(1);
         match share {
             Share::Edge => self.random.pick(&[0, 1, q / 2, q - 1]),
-            Share::Damaged if self.random.percent(25) => self.random.pick(&[q, (q + 1) % (1 << 32), 4_294_967_295]),
+            Share::Damaged if self.random.percent(25) => {
+                self.random.pick(&[q, (q + 1) % (1 << 32), 4_294_967_295])
+            }
             _ => self.random.below(q),
         }
     }

@@ -70,10 +70,17 @@ impl Generator {
         for _ in 0..self.random.from_to(1, 3) {
             let length = self.random.from_to(2, 8) as usize;
             let absent = if self.random.percent(40) { self.random.index(length) } else { length };
-            let keys: Vec<String> = (0..length)
-                .map(|i| if i == absent { self.random.from_to(1, 255) } else { self.random.pick(numbers).max(1) })
-                .map(|key| format!("K{key}"))
-                .collect();
+            let keys: Vec<String> =
+                (0..length)
+                    .map(|i| {
+                        if i == absent {
+                            self.random.from_to(1, 255)
+                        } else {
+                            self.random.pick(numbers).max(1)
+                        }
+                    })
+                    .map(|key| format!("K{key}"))
+                    .collect();
             let opening = self.random.pick(&["all", "any", "any(K1,all", "2of(K1,K2,any"]);
             let closing = if opening.len() > 3 { "))" } else { ")" };
             let text = format!("{opening}({}{closing}", keys.join(","));

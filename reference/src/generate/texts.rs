@@ -127,7 +127,10 @@ impl Generator {
             3 => format!("{}{}", "any(".repeat(8), self.random.pick(&["9", "K", "a", "x", ")", "", "0of("])),
             4 => {
                 let eight = "K1,K2,K3,K4,K5,K6,K7,K8";
-                format!("all(any({eight}),any({eight}),{}", self.random.pick(&["K1)", "K", "Kx", "any(K1,K2))"]))
+                format!(
+                    "all(any({eight}),any({eight}),{}",
+                    self.random.pick(&["K1)", "K", "Kx", "any(K1,K2))"])
+                )
             }
             5 => format!("any(K1,K2,K3,K4,K5,K6,K7,K8,{}", self.random.pick(&["K9)", "", "x", "9of("])),
             6 => self.random.pick(&["all(K1)", "any(K1)", "2of(K1)", "all(all(K1,K2))"]).to_string(),
@@ -136,11 +139,28 @@ impl Generator {
                 let items = self.random.from_to(1, digit as u64) as usize;
                 format!("{digit}of({})", vec!["K7"; items].join(","))
             }
-            8 => self.random.pick(&["", "K", "a", "al", "all", "an", "any", "2", "2o", "2of", "all(", "K1,", "K1)"]).to_string(),
-            9 => self.random.pick(&["all()", "any(,)", "any(K1,)", "any(,K1)", "2of()", "any(K1,K2))", "any(K1K2)"]).to_string(),
+            8 => self
+                .random
+                .pick(&["", "K", "a", "al", "all", "an", "any", "2", "2o", "2of", "all(", "K1,", "K1)"])
+                .to_string(),
+            9 => self
+                .random
+                .pick(&["all()", "any(,)", "any(K1,)", "any(,K1)", "2of()", "any(K1,K2))", "any(K1K2)"])
+                .to_string(),
             10 => return self.long_text(),
             11 | 12 => return self.with_bad_number(),
-            _ => self.random.pick(&["ALL(K1,K2)", "k1", "any (K1,K2)", "any(K1, K2)", "any(K1 ,K2)", "aly(K1,K2)", "2ox(K1"]).to_string(),
+            _ => self
+                .random
+                .pick(&[
+                    "ALL(K1,K2)",
+                    "k1",
+                    "any (K1,K2)",
+                    "any(K1, K2)",
+                    "any(K1 ,K2)",
+                    "aly(K1,K2)",
+                    "2ox(K1",
+                ])
+                .to_string(),
         };
         format!("{before}{fault}")
     }
@@ -197,7 +217,11 @@ impl Generator {
     }
 
     pub(super) fn read_line(&mut self, text: &[u8]) {
-        let mut line = self.random.pick(&["rule read ", "rule read ", "rule read ", " rule\tread  "]).as_bytes().to_vec();
+        let mut line = self
+            .random
+            .pick(&["rule read ", "rule read ", "rule read ", " rule\tread  "])
+            .as_bytes()
+            .to_vec();
         line.extend_from_slice(text);
         line.extend_from_slice(self.random.pick(&["", "", "", "", " ", "\r", " # text", "#"]).as_bytes());
         self.plain(line);

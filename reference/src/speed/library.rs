@@ -14,7 +14,14 @@ extern "C" {
     fn lemonbilge_rule_read(text: *const u8, length: usize) -> u32;
     /// Reads a rule once, splits so many challenges from 0 upwards down it, and gives the sum of the
     /// challenges that each split has, put together by exclusive or.
-    fn lemonbilge_rule_split(text: *const u8, length: usize, q: u32, shares: *const u32, count: usize, times: u32) -> u64;
+    fn lemonbilge_rule_split(
+        text: *const u8,
+        length: usize,
+        q: u32,
+        shares: *const u32,
+        count: usize,
+        times: u32,
+    ) -> u64;
 }
 
 fn power_residue() -> Task {
