@@ -1,7 +1,7 @@
 //! The two shapes of group: residues modulo p, and the circle modulo p.
 
 use crate::refusal::{refuse, Refusal};
-use crate::scalars::in_range;
+use crate::scalars::{in_range, power_modulo};
 
 pub const ORDERS: [u64; 4] = [11, 13, 331, 166_667];
 pub const MODULI: [u64; 8] = [23, 43, 53, 103, 2_647, 1_000_003, 2_000_003, 2_147_483_647];
@@ -38,17 +38,25 @@ impl Shape {
     }
 
     pub fn power(self, p: u64, x: Element, exponent: u64) -> Element {
-        if exponent == 0 {
-            return NEUTRAL;
-        }
-        let half = self.power(p, x, exponent / 2);
-        let even = self.multiply(p, half, half);
-        if exponent % 2 == 1 {
-            self.multiply(p, even, x)
-        } else {
-            even
+        match self {
+            Shape::Residue => (power_modulo(x.0, exponent, p), 0),
+            Shape::Circle => circle_power(p, x, exponent),
         }
     }
+}
+
+fn circle_power(p: u64, x: Element, exponent: u64) -> Element {
+    let mut result = NEUTRAL;
+    let mut square = x;
+    let mut rest = exponent;
+    while rest > 0 {
+        if rest % 2 == 1 {
+            result = Shape::Circle.multiply(p, result, square);
+        }
+        square = Shape::Circle.multiply(p, square, square);
+        rest /= 2;
+    }
+    result
 }
 
 /// The two words of an element.
