@@ -75,7 +75,11 @@ pub struct Failure {
 
 impl Comparison<'_> {
     fn differ(&self, lines: &[Vec<u8>]) -> io::Result<Option<Difference>> {
-        let script = bytes_of(lines);
+        let mut script = bytes_of(lines);
+        // The last line may have no end: here, in every script with an odd number of lines.
+        if lines.len() % 2 == 1 {
+            script.pop();
+        }
         Ok(difference(self.care, &run(&script), &output_of(self.path, &script)?))
     }
 

@@ -18,7 +18,7 @@ reference vectors NUMBER COUNT [FOLDER]       a script of COUNT commands and its
 reference same NUMBER COUNT FOLDER            whether FOLDER's stdin and stdout are those that vectors writes
 reference cover NUMBER COUNT                  which replies and refusals such a script has
 reference compare NUMBER COUNT [PATH] [CARE]  runs PATH (target/bin/release) and this program on random scripts;
-                                              CARE is exact, words or lines
+                                              CARE is exact, words (where none is given) or lines
 reference speed                               takes times
 The word `arithmetic` at the end leaves out all commands but those on groups, elements and scalars.
 ";
@@ -37,7 +37,7 @@ fn arguments(words: &[String]) -> Option<Arguments> {
         return None;
     };
     let (number, count) = (number.parse().ok()?, count.parse().ok()?);
-    let mut arguments = Arguments { number, count, path: None, care: Care::Exact, scope: Scope::All };
+    let mut arguments = Arguments { number, count, path: None, care: Care::Words, scope: Scope::All };
     for word in others {
         match (Care::named(word), Scope::named(word)) {
             (Some(named), _) => arguments.care = named,

@@ -97,6 +97,10 @@ impl Generator {
 
     /// Lines without a word, and words that are no command.
     pub(super) fn not_a_command(&mut self) {
+        if self.random.percent(10) {
+            let line = self.long_line();
+            return self.plain(line);
+        }
         let line: &[u8] = match self.random.below(12) {
             0 => b"",
             1 => b" \t \r",
@@ -112,5 +116,16 @@ impl Generator {
             _ => b"\x00",
         };
         self.plain(line);
+    }
+
+    /// A comment, words or a number of thousands of bytes.
+    fn long_line(&mut self) -> String {
+        let length = self.random.from_to(1000, 5000) as usize;
+        match self.random.below(4) {
+            0 => format!("scalar add 11 5 7 #{}", " long".repeat(length / 5)),
+            1 => format!("scalar add 11 5 {}7", "0".repeat(length)),
+            2 => format!("scalar add 11 5 7{}", " 7".repeat(length / 2)),
+            _ => format!("{}scalar add 11 5 7", " ".repeat(length)),
+        }
     }
 }

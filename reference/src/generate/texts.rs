@@ -186,7 +186,9 @@ impl Generator {
 
     /// About 240 bytes.
     fn long_text(&mut self) -> String {
-        let length = self.random.from_to(236, 244) as usize;
+        let far = self.random.percent(10);
+        let length =
+            if far { self.random.from_to(245, 3000) } else { self.random.from_to(236, 244) } as usize;
         let filler = self.random.pick(&["K1", "any(", "K111111111", "all(K1,", "9", "any(K100,K200),"]);
         let mut text = if self.random.percent(50) { self.full() } else { "any(K1,".to_string() };
         while text.len() < length {
