@@ -136,6 +136,18 @@ impl Generator {
         self.command(&format!("group {} {q} {p} {bases}", shape.name()));
     }
 
+    /// Both groups anew, so that the supplied set stands on them.
+    pub(super) fn groups_of_one_order(&mut self) {
+        let (q, p) = self.fitting(Shape::Residue);
+        let (g, h) = (self.base(Shape::Residue, q, p), self.base(Shape::Residue, q, p));
+        self.plain(format!("group residue {q} {p} {} {}", g.0, h.0));
+        let moduli = MODULI.iter().filter(|p| Shape::Circle.fits(q, **p)).copied();
+        let moduli: Vec<u64> = moduli.collect();
+        let p = self.random.pick(&moduli);
+        let (g, h) = (self.base(Shape::Circle, q, p), self.base(Shape::Circle, q, p));
+        self.plain(format!("group circle {q} {p} {}", words(&[g.0, g.1, h.0, h.1])));
+    }
+
     fn damage_group(&mut self, shape: Shape, q: &mut u64, p: &mut u64, g: &mut Element, h: &mut Element) {
         let outside = [0, 1, 10, HIGHEST + 1, 4_294_967_295];
         match self.random.below(8) {

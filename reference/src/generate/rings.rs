@@ -30,10 +30,13 @@ impl Generator {
 
     /// A ring from the beginning: its lines, reading it, a rule over its numbers, and pairing.
     pub(super) fn ring(&mut self) {
+        if self.set().is_none() && self.random.percent(80) {
+            self.groups_of_one_order();
+        }
         self.plain("ring clear");
         let count = self.random.pick(&[1, 2, 3, 5, 8, 13, 15, 16, 16, 17]);
         let mut numbers = self.rising(count);
-        let fault = if self.random.percent(45) { self.random.index(count) } else { count };
+        let fault = if self.random.percent(60) { self.random.index(count) } else { count };
         if fault < count && self.random.percent(45) {
             let before = if fault == 0 { 0 } else { numbers[fault - 1] };
             numbers[fault] = self.random.pick(&[0, before, before.saturating_sub(1)]);
