@@ -1,5 +1,6 @@
 //! The English words of refusals and of lines that do not fit. They stand in tables of their own, so that a
-//! comparison can be exact or can leave them out.
+//! comparison can be exact or can leave them out. Those for refusals from 5 on, and for the commands on kinds,
+//! rules, rings and gates, are this program's own wording until the reference page gives them.
 
 use crate::groups::Shape;
 use crate::refusal::Refusal;

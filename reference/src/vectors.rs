@@ -24,6 +24,8 @@ fn class(line: &str) -> Option<String> {
     match words.as_slice() {
         ["refused", number, place, ..] => Some(format!("refused {number:>2} at {place:>3}")),
         ["line", ..] => Some("line that does not fit".to_string()),
+        // The text of a faulty rule may be a word as well.
+        ["all" | "any", ..] => None,
         [first, ..] if first.len() > 1 && first.bytes().all(|byte| byte.is_ascii_lowercase()) => {
             Some(first.to_string())
         }
