@@ -1,5 +1,6 @@
-//! An independent program beside the library: written from docs/REFERENCE.md alone, and straightforward
-//! on purpose, so that where the two agree they agree for different reasons.
+//! An independent program beside the library: written from docs/REFERENCE.md and not from its sources,
+//! and straightforward on purpose, so that where the two agree they agree for different reasons. README.md says
+//! what was taken from the output of the program `release`.
 
 pub mod compare;
 pub mod generate;
