@@ -1,0 +1,5 @@
+// Splitting a challenge down a whole rule.
+mod gate;
+mod rows;
+
+pub use gate::split_gate;
