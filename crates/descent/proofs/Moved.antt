@@ -3,11 +3,11 @@ use mathlib.Core.Path.{_≡_, refl, sym, ap, ap₂, subst, _∙_}
 use mathlib.Core.List.{List, [], _∷_, map}
 use mathlib.Core.Logic.{_≢_}
 use mathlib.Core.Option.{some}
-use Prim.Native.Nat.{ℕ, zero, suc, _+_, _<_, _≤_}
+use Prim.Native.Nat.{ℕ, zero, suc, _+_, _-_, _<_, _≤_}
 use native.Mathlib.Decide.{ℕ-discrete, decLt}
 use native.Mathlib.Omega.{arith}
-use lib.ListN.{length, getD, set, take, replicate, getElem?}
-use lib.Seq.{getD-set-same, getD-set-other, getD-take, length-take-le}
+use lib.ListN.{length, getD, set, take, drop, getElem?, getD-replicate, length-drop}
+use lib.Seq.{getD-set-same, getD-set-other, getD-take, getD-drop, length-take-le, take-all}
 use Rattle.descent.specs.Rows.{Begins, Spread-out}
 
 -- an entry inside a row is the same at every default
@@ -31,9 +31,8 @@ begins-more {E} j row xs x inside room is so-far k d h = go (ℕ-discrete k j)
 
 -- one child more
 module _ {E : Type 0} (cs : List ℕ) (row xs ys : List E) (j : ℕ) (x : E)
-  (child : j < length cs) (inside : j < length row) (room : getD cs j 0 < length ys)
-  (rising : (i k : ℕ) → i < k → k < length cs → getD cs i 0 < getD cs k 0) (is : x ≡ getD row j x) where
-
+    (child : j < length cs) (inside : j < length row) (room : getD cs j 0 < length ys)
+    (rising : (i k : ℕ) → i < k → k < length cs → getD cs i 0 < getD cs k 0) (is : x ≡ getD row j x) where
   pub placed-more : ((k : ℕ) (d : E) → k < j → getD ys (getD cs k 0) d ≡ getD row k d)
       → (k : ℕ) (d : E) → k < j + 1 → getD (set ys (getD cs j 0) x) (getD cs k 0) d ≡ getD row k d
   placed-more so-far k d h = go (ℕ-discrete k j)
@@ -74,10 +73,23 @@ same-row z ys (c ∷ cs) (x ∷ row) l h = ap₂ _∷_ (h zero (omega arith)) (s
 pub eight-length : {E : Type 0} (n : ℕ) (x : E) → n ≤ 8 → length (take n (x ∷ x ∷ x ∷ x ∷ x ∷ x ∷ x ∷ x ∷ [])) ≡ n
 eight-length n x h = length-take-le n (x ∷ x ∷ x ∷ x ∷ x ∷ x ∷ x ∷ x ∷ []) h
 
-all-equal : {E : Type 0} (x z : E) (n i : ℕ) → i < n → getD (replicate n x) i z ≡ x
-all-equal x z zero i h = absurd (omega arith)
-all-equal x z (suc n) zero h = refl
-all-equal x z (suc n) (suc i) h = all-equal x z n i (omega arith)
-
 pub eight-at : {E : Type 0} (n i : ℕ) (x z : E) → n ≤ 8 → i < n → getD (take n (x ∷ x ∷ x ∷ x ∷ x ∷ x ∷ x ∷ x ∷ [])) i z ≡ x
-eight-at n i x z h l = getD-take n (x ∷ x ∷ x ∷ x ∷ x ∷ x ∷ x ∷ x ∷ []) i z l ∙ all-equal x z 8 i (omega arith)
+eight-at n i x z h l = getD-take n (x ∷ x ∷ x ∷ x ∷ x ∷ x ∷ x ∷ x ∷ []) i z l ∙ getD-replicate 8 i x z (omega arith)
+
+pub filled-more : {E : Type 0} (xs : List E) (j : ℕ) (x : E) → j < length xs → ((k : ℕ) (d : E) → k < j → getD xs k d ≡ x)
+    → (k : ℕ) (d : E) → k < j + 1 → getD (set xs j x) k d ≡ x
+filled-more {E} xs j x room so-far k d h = go (ℕ-discrete k j)
+  where
+    go : Dec (k ≡ j) → getD (set xs j x) k d ≡ x
+    go (yes e) = ap (λ i. getD (set xs j x) i d) e ∙ getD-set-same xs j x d room
+    go (no n) = getD-set-other xs j k x d n ∙ so-far k d (omega arith)
+
+-- a part that goes to the end
+pub to-end : {E : Type 0} (xs : List E) (n : ℕ) → take (length xs - n) (drop n xs) ≡ drop n xs
+to-end xs n = take-all (length xs - n) (drop n xs) (simp length-drop (omega arith))
+
+pub part-members : {E : Type 0} (P : E → Type 0) (z : E) (xs : List E) (n : ℕ) → n ≤ length xs → ((i : ℕ) → i < length xs → P (getD xs i z))
+    → (i : ℕ) → i < length (take (length xs - n) (drop n xs)) → P (getD (take (length xs - n) (drop n xs)) i z)
+part-members P z xs n fits inside i h =
+    let short : i < length xs - n = subst (λ k. i < k) (ap length (to-end xs n) ∙ length-drop n xs) h in
+    subst P (sym (ap (λ ys. getD ys i z) (to-end xs n) ∙ getD-drop n xs i z)) (inside (n + i) (omega arith))

@@ -14,8 +14,13 @@ split-gate-in-requires g c κs =
     let few : n ≤ 8 = omega (arith, c .len .ensures, c .pre .sizes) in
     record {
       sizes = (c .pre .sizes .0, (c .pre .sizes .1 .0, (c .pre .sizes .1 .1, eight-length n (c .args .own) few ∙ c .len .ensures)));
-      elements = (c .pre .elements .0, (c .pre .elements .1,
-        λ i h. subst (λ x. T (m .member x)) (sym (eight-at n i (c .args .own) (m .zero) few (omega (arith, eight-length n (c .args .own) few)))) (c .pre .elements .0)));
+      elements = (
+        c .pre .elements .0,
+        (
+          c .pre .elements .1,
+          λ i h. subst (λ x. T (m .member x)) (sym (eight-at n i (c .args .own) (m .zero) few (omega (arith, eight-length n (c .args .own) few)))) (c .pre .elements .0),
+        ),
+      );
       inside = c .pre .inside;
       rising = c .pre .rising;
     }

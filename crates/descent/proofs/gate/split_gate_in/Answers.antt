@@ -15,9 +15,11 @@ split-simulated-requires g c κs =
     let long = c .copy-first .kept .to in
     record {
       sizes = (omega (arith, long, c .pre .sizes), omega (arith, long, c .pre .sizes));
-      elements = (c .pre .elements .0,
+      elements = (
+        c .pre .elements .0,
         all-members (λ x. T (m .member x)) (m .zero) (c .len .result - c .args .threshold) (c .args .shares .now) (c .args .row .now) (c .copy-first .last .to)
-        (omega (arith, c .len .ensures, c .pre .sizes)) long (c .copy-first .ensures .copied) (c .copy-first .ensures .rest) (c .pre .elements .1 .0) (c .pre .elements .1 .1));
+            (omega (arith, c .len .ensures, c .pre .sizes)) long (c .copy-first .ensures .copied) (c .copy-first .ensures .rest) (c .pre .elements .1 .0) (c .pre .elements .1 .1),
+      );
     }
 
 pub returns : need.returns
