@@ -48,26 +48,52 @@ mod tests {
     // What a question answers where the set could not be made.
     const UNMADE: Words = ((7, 7), (7, 7));
 
-    // The image of (u, v) under one of the six kinds.
-    fn image(kind: u8, u: u32, v: u32) -> Words {
+    // What is asked of one kind.
+    #[derive(Clone, Copy)]
+    enum Question {
+        Width,
+        Neutral,
+        IsImage(Words),
+        Image(u32, u32),
+        Product(Words, Words),
+        Power(Words, u32),
+    }
+
+    // The answer as four words: a width is the first of them, and so is a yes.
+    fn answer<S: LeafKinds>(set: &S, kind: u8, question: Question) -> Words {
+        match question {
+            Question::Width => ((set.width(kind) as u32, 0), (0, 0)),
+            Question::Neutral => words(neutral_image(set, kind)),
+            Question::IsImage(a) => { yes(set.is_image(kind, &Image(a.0, a.1))) }
+            Question::Image(u, v) => words(key_image(set, kind, key(u, v))),
+            Question::Product(a, b) => {
+                let (left, right) = (Image(a.0, a.1), Image(b.0, b.1));
+                words(image_product(set, kind, &left, &right))
+            }
+            Question::Power(a, exponent) => {
+                words(image_power(set, kind, &Image(a.0, a.1), exponent))
+            }
+        }
+    }
+
+    fn asked(kind: u8, question: Question) -> Words {
         match six() {
-            Some(set) => words(key_image(&set, kind, key(u, v))),
+            Some(set) => answer(&set, kind, question),
             None => UNMADE,
         }
+    }
+
+    // The image of (u, v) under one of the six kinds.
+    fn image(kind: u8, u: u32, v: u32) -> Words {
+        asked(kind, Question::Image(u, v))
     }
 
     fn product(kind: u8, a: Words, b: Words) -> Words {
-        match six() {
-            Some(set) => words(image_product(&set, kind, &Image(a.0, a.1), &Image(b.0, b.1))),
-            None => UNMADE,
-        }
+        asked(kind, Question::Product(a, b))
     }
 
     fn power(kind: u8, a: Words, exponent: u32) -> Words {
-        match six() {
-            Some(set) => words(image_power(&set, kind, &Image(a.0, a.1), exponent)),
-            None => UNMADE,
-        }
+        asked(kind, Question::Power(a, exponent))
     }
 
     #[test]
@@ -108,11 +134,11 @@ mod tests {
         check(power(1, ((5, 0), (0, 0)), 4294967295) == ZEROS)
     }
 
-    fn width_by_hand(kind: u8) -> u8 {
+    fn width_by_hand(kind: u8) -> Words {
         match kind {
-            1 | 2 | 4 | 5 => 1,
-            3 | 6 => 2,
-            _ => 0,
+            1 | 2 | 4 | 5 => ((1, 0), (0, 0)),
+            3 | 6 => ((2, 0), (0, 0)),
+            _ => ZEROS,
         }
     }
 
@@ -124,36 +150,20 @@ mod tests {
         }
     }
 
-    fn width(kind: u8) -> u8 {
-        match six() {
-            Some(set) => set.width(kind),
-            None => 7,
-        }
-    }
-
-    fn neutral(kind: u8) -> Words {
-        match six() {
-            Some(set) => words(neutral_image(&set, kind)),
-            None => UNMADE,
-        }
-    }
-
-    fn is_image(kind: u8, a: Words) -> bool {
-        match six() {
-            Some(set) => set.is_image(kind, &Image(a.0, a.1)),
-            None => false,
-        }
+    fn yes(test: bool) -> Words {
+        if test { ((1, 0), (0, 0)) } else { ZEROS }
     }
 
     #[test]
     fn all_kind_numbers() -> Result<(), Fail> {
         for number in 0..256u32 {
             let kind = number as u8;
-            check(width(kind) == width_by_hand(kind))?;
-            check(neutral(kind) == neutral_by_hand(kind))?;
-            check(image(kind, 0, 0) == neutral_by_hand(kind))?;
-            check(is_image(kind, neutral_by_hand(kind)) == (kind > 0 && kind < 7))?;
-            check(!is_image(kind, ZEROS))?;
+            let neutral = neutral_by_hand(kind);
+            check(asked(kind, Question::Width) == width_by_hand(kind))?;
+            check(asked(kind, Question::Neutral) == neutral)?;
+            check(image(kind, 0, 0) == neutral)?;
+            check(asked(kind, Question::IsImage(neutral)) == yes(kind > 0 && kind < 7))?;
+            check(asked(kind, Question::IsImage(ZEROS)) == ZEROS)?;
         }
         Ok(())
     }
@@ -219,21 +229,9 @@ mod tests {
     }
 
     // Three kinds modulo 101 with the base 7.
-    fn multiple(kind: u8, w: u32) -> Words {
+    fn multiple(kind: u8, question: Question) -> Words {
         match Multiples::new(101, 7, 3) {
-            Ok(set) => words(key_image(&set, kind, key(w, 0))),
-            Err(_) => UNMADE,
-        }
-    }
-
-    fn sum(kind: u8, a: u32, b: u32) -> Words {
-        match Multiples::new(101, 7, 3) {
-            Ok(set) => words(image_product(
-                &set,
-                kind,
-                &Image((a, 0), (0, 0)),
-                &Image((b, 0), (0, 0)),
-            )),
+            Ok(set) => answer(&set, kind, question),
             Err(_) => UNMADE,
         }
     }
@@ -247,17 +245,21 @@ mod tests {
             return UNMADE;
         };
         match Join::new(left, Single { group }) {
-            Ok(set) => words(key_image(&set, kind, key(w, 0))),
+            Ok(set) => answer(&set, kind, Question::Image(w, 0)),
             Err(_) => UNMADE,
         }
     }
 
+    fn number(a: u32) -> Words {
+        ((a, 0), (0, 0))
+    }
+
     #[test]
     fn multiples() -> Result<(), Fail> {
-        check(multiple(2, 9) == ((25, 0), (0, 0)))?;
-        check(multiple(4, 9) == ZEROS)?;
-        check(sum(3, 100, 2) == ((1, 0), (0, 0)))?;
-        check(sum(3, 100, 101) == ZEROS)?;
+        check(multiple(2, Question::Image(9, 0)) == ((25, 0), (0, 0)))?;
+        check(multiple(4, Question::Image(9, 0)) == ZEROS)?;
+        check(multiple(3, Question::Product(number(100), number(2))) == ((1, 0), (0, 0)))?;
+        check(multiple(3, Question::Product(number(100), number(101))) == ZEROS)?;
         check(beside(3, 5) == ((6, 0), (0, 0)))?;
         check(beside(4, 5) == ((12, 0), (0, 0)))?;
         check(beside(5, 5) == ZEROS)
