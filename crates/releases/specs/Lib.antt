@@ -1,0 +1,6 @@
+pub mod Entries
+pub mod Transcripts
+pub mod Keys
+pub mod Making
+pub mod Forks
+pub mod Theorems
