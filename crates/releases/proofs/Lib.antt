@@ -3,3 +3,8 @@ pub mod Laid
 pub mod Order
 pub mod Satisfy
 pub mod Descend
+pub mod Arithmetic
+pub mod KeyLaws
+pub mod Leaf
+pub mod Interpolation
+pub mod Gate

@@ -49,3 +49,17 @@ pub getD-map : {A : Type 0} (f : ℕ → A) (cs : List ℕ) (j : ℕ) (d : A) �
 getD-map f [] j d l = absurd (not-suc-le-zero l)
 getD-map f (c ∷ cs) zero d l = refl
 getD-map f (c ∷ cs) (suc j) d l = getD-map f cs j d (le-of-suc-le-suc l)
+
+-- f 0, f 1, ..: n of them
+abbrev pub run : {A : Type 0} → (ℕ → A) → ℕ → List A
+run f zero = []
+run f (suc n) = f zero ∷ run (λ j. f (suc j)) n
+
+pub length-run : {A : Type 0} (f : ℕ → A) (n : ℕ) → length (run f n) ≡ n
+length-run f zero = refl
+length-run f (suc n) = ap suc (length-run (λ j. f (suc j)) n)
+
+pub getD-run : {A : Type 0} (f : ℕ → A) (n j : ℕ) (d : A) → j < n → getD (run f n) j d ≡ f j
+getD-run f zero j d h = absurd (not-suc-le-zero h)
+getD-run f (suc n) zero d h = refl
+getD-run f (suc n) (suc j) d h = getD-run (λ j. f (suc j)) n j d (le-of-suc-le-suc h)
