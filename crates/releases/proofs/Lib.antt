@@ -8,3 +8,5 @@ pub mod KeyLaws
 pub mod Leaf
 pub mod Interpolation
 pub mod Gate
+pub mod Quotients
+pub mod Forking
