@@ -22,25 +22,25 @@ nothing (x ∷ xs) e = absurd (omega arith)
 
 module _ (size : Entry → ℕ) where
   -- what f gives for an entry is as long as its share
-  abbrev pub Sized : {A : Type 0} → (ℕ → Entry → List A) → Type 0
-  Sized f = (i : ℕ) (e : Entry) → length (f i e) ≡ size e
+  abbrev pub Sized : {A : Type 0} → List Entry → (ℕ → Entry → List A) → Type 0
+  Sized rule f = (i : ℕ) (e : Entry) → getElem? rule i ≡ some e → length (f i e) ≡ size e
 
-  pub laid-length : {A : Type 0} (f : ℕ → Entry → List A) → Sized f → (rule : List Entry) → length (laid f rule) ≡ total size rule
-  laid-length f s [] = refl
-  laid-length f s (e ∷ es) =
-      length-append (f zero e) (laid (λ i. f (suc i)) es) ∙ ap₂ _+_ (s zero e) (laid-length (λ i. f (suc i)) (λ i. s (suc i)) es)
+  pub laid-length : {A : Type 0} (f : ℕ → Entry → List A) (rule : List Entry) → Sized rule f → length (laid f rule) ≡ total size rule
+  laid-length f [] s = refl
+  laid-length f (e ∷ es) s =
+      length-append (f zero e) (laid (λ i. f (suc i)) es) ∙ ap₂ _+_ (s zero e refl) (laid-length (λ i. f (suc i)) es (λ i. s (suc i)))
 
-  pub laid-share : {A : Type 0} (f : ℕ → Entry → List A) → Sized f → (rule : List Entry) (i : ℕ) (e : Entry) → getElem? rule i ≡ some e
+  pub laid-share : {A : Type 0} (f : ℕ → Entry → List A) (rule : List Entry) → Sized rule f → (i : ℕ) (e : Entry) → getElem? rule i ≡ some e
       → take (size e) (drop (before size rule i) (laid f rule)) ≡ f i e
-  laid-share f s [] i e h = none-some e h
-  laid-share f s (e′ ∷ es) zero e h =
+  laid-share f [] s i e h = none-some e h
+  laid-share f (e′ ∷ es) s zero e h =
       let same : e′ ≡ e = some-inj e′ e h in
-      take-at (f zero e′) (laid (λ i. f (suc i)) es) (size e) (s zero e′ ∙ ap size same) ∙ ap (f zero) same
-  laid-share f s (e′ ∷ es) (suc i) e h =
+      take-at (f zero e′) (laid (λ i. f (suc i)) es) (size e) (s zero e′ refl ∙ ap size same) ∙ ap (f zero) same
+  laid-share f (e′ ∷ es) s (suc i) e h =
       let rest = laid (λ i. f (suc i)) es in
       ap (take (size e))
-      (sym (drop-drop (before size es i) (size e′) (f zero e′ ++ rest)) ∙ ap (drop (before size es i)) (drop-at (f zero e′) rest (size e′) (s zero e′)))
-      ∙ laid-share (λ i. f (suc i)) (λ i. s (suc i)) es i e h
+      (sym (drop-drop (before size es i) (size e′) (f zero e′ ++ rest)) ∙ ap (drop (before size es i)) (drop-at (f zero e′) rest (size e′) (s zero e′ refl)))
+      ∙ laid-share (λ i. f (suc i)) es (λ i. s (suc i)) i e h
 
   pub laid-all : {A : Type 0} (P : A → Type 0) (f : ℕ → Entry → List A) (rule : List Entry)
       → ((i : ℕ) (e : Entry) → getElem? rule i ≡ some e → All P (f i e)) → All P (laid f rule)
@@ -75,20 +75,20 @@ abbrev pub at-leaf : {A : Type 0} → (ℕ → A) → ℕ → Entry → List A
 at-leaf f i (leaf kind s) = f i ∷ []
 at-leaf f i (gate k children) = []
 
-one-sized : {A : Type 0} (f : ℕ → A) → Sized to-leaf (at-leaf f)
-one-sized f i (leaf kind s) = refl
-one-sized f i (gate k children) = refl
+one-sized : {A : Type 0} (f : ℕ → A) (rule : List Entry) → Sized to-leaf rule (at-leaf f)
+one-sized f rule i (leaf kind s) h = refl
+one-sized f rule i (gate k children) h = refl
 
 module _ {A : Type 0} where
   pub leaf-share : (xs : List A) (n : ℕ) (d : A) → getD xs n d ≡ getD (take 1 (drop n xs)) 0 d
   leaf-share xs n d = ap (λ k. getD xs k d) (sym (add-zero n)) ∙ sym (getD-take 1 (drop n xs) 0 d (omega arith) ∙ getD-drop n xs 0 d)
 
   pub at-leaf-length : (f : ℕ → A) (rule : List Entry) → length (laid (at-leaf f) rule) ≡ leaves rule
-  at-leaf-length f rule = laid-length to-leaf (at-leaf f) (one-sized f) rule
+  at-leaf-length f rule = laid-length to-leaf (at-leaf f) rule (one-sized f rule)
 
   pub at-leaf-is : (f : ℕ → A) (rule : List Entry) (d : A) (i kind : ℕ) (s : _) → Leaf-at rule i kind s → getD (laid (at-leaf f) rule) (number rule i) d ≡ f i
   at-leaf-is f rule d i kind s h =
-      leaf-share (laid (at-leaf f) rule) (number rule i) d ∙ ap (λ u. getD u 0 d) (laid-share to-leaf (at-leaf f) (one-sized f) rule i (leaf kind s) h)
+      leaf-share (laid (at-leaf f) rule) (number rule i) d ∙ ap (λ u. getD u 0 d) (laid-share to-leaf (at-leaf f) rule (one-sized f rule) i (leaf kind s) h)
 
   -- lists with one thing to a leaf that agree at every leaf are the same
   pub leaf-by-leaf : (rule : List Entry) (d : A) (xs ys : List A) → length xs ≡ leaves rule → length ys ≡ leaves rule

@@ -10,3 +10,6 @@ pub mod Interpolation
 pub mod Gate
 pub mod Quotients
 pub mod Forking
+pub mod Given
+pub mod Acceptance
+pub mod Determined
