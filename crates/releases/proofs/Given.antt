@@ -28,7 +28,6 @@ use Rattle.releases.proofs.KeyLaws.{fits-key}
 -- real children are as many as their gate asks for or none, and the keys of real leaves open them
 pub record Sound (m : KindModel) (rule : List Entry) (keys : List (Option Key)) (real : ℕ → Bool) : Type 0 where
   pub some-children : (p k : ℕ) (children : List ℕ) → Gate-at rule p k children → T (real p) → count real children ≡ k
-  pub no-child : (p k : ℕ) (children : List ℕ) → Gate-at rule p k children → T (not (real p)) → (j : ℕ) → j < length children → T (not (real (getD children j 0)))
   pub opened : (i kind : ℕ) (s : Image) → Leaf-at rule i kind s → T (real i) → IsKey m kind (held (key rule keys i)) × (m .kind kind .image (held (key rule keys i)) ≡ s)
 
 missing-real : (real : ℕ → Bool) (cs : List ℕ) → missing (map (λ c. not (real c)) cs) ≡ count real cs

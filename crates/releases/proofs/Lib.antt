@@ -13,3 +13,7 @@ pub mod Forking
 pub mod Given
 pub mod Acceptance
 pub mod Determined
+pub mod Existing
+pub mod Reading
+pub mod Choosing
+pub mod Making
