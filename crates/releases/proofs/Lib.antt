@@ -17,3 +17,5 @@ pub mod Existing
 pub mod Reading
 pub mod Choosing
 pub mod Making
+pub mod Tabled
+pub mod Spelling

@@ -12,6 +12,7 @@
 --   One-simulated-tape  an acceptable transcript is simulated by exactly one tape
 --   One-honest-tape     and is answered, for keys that open their leaves and satisfy the rule, by exactly one tape
 --   Words               a transcript's words are N + 6L, and parsing and spelling undo each other
+--   Reading-sets        a rule and a ring that are read and paired are a setting, with any lawful set
 use mathlib.Core.Path.{_≡_}
 use mathlib.Core.Bool.{Bool}
 use mathlib.Core.List.{List}
@@ -19,11 +20,14 @@ use Prim.Native.Nat.{ℕ, _+_, _*_, _<_}
 use lib.Dec.{T}
 use lib.ListN.{length, getElem?}
 use Rattle.std.specs.declared.option.Option.{Option}
+use Rattle.std.specs.declared.option.Option.the-variants.{None}
 use Rattle.fields.specs.declared.scalar.Scalar.{Scalar}
 use Rattle.kinds.specs.Kinds.{KindModel, Key, Lawful}
 use Rattle.kinds.specs.declared.image.Image.{Image}
-use Rattle.rules.specs.Tables.{Only}
-use Rattle.releases.specs.Entries.{Entry, WellFormed, Stated, leaves}
+use Rattle.rules.specs.Tables.{Row, WellFormed as FormedRows, Only}
+use Rattle.rings.specs.Rings.{ring-lines, ring-refusal}
+use Rattle.rings.specs.Pairings.{pair-refusal, paired}
+use Rattle.releases.specs.Entries.{Entry, entries, WellFormed, Stated, leaves}
 use Rattle.releases.specs.Transcripts.{Transcript, challenge, Shaped, Acceptable, is-scalar, spelt, parsed}
 use Rattle.releases.specs.Keys.{key, holds, satisfied, Satisfied, Opening}
 use Rattle.releases.specs.Making.{Tape, Made, Simulated, Chosen, First, Answered, Committed}
@@ -90,3 +94,8 @@ Words =
     (rule : List Entry)
     → ((t : Transcript) → Shaped rule t → (length (spelt t) ≡ length rule + 6 * leaves rule) × (parsed rule (spelt t) ≡ t))
     × ((ws : List ℕ) → length ws ≡ length rule + 6 * leaves rule → Shaped rule (parsed rule ws) × (spelt (parsed rule ws) ≡ ws))
+
+abbrev pub Reading-sets : Type 0
+Reading-sets =
+    (m : KindModel) → Lawful m → (rows : List Row) → FormedRows rows → (ring : List ℕ) → ring-refusal m ring ≡ None → pair-refusal rows (ring-lines ring) ≡ None
+    → Setting m (entries rows (paired rows (ring-lines ring)))

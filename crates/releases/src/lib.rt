@@ -1,5 +1,5 @@
 // Releases by key holders: what they are, and what holds of every one. Each function's contract is a theorem.
-ghost use Rattle.releases.specs.Theorems.{«Satisfied-only», «Forks-satisfy», «Simulated-fits», «First-chosen», «Chosen-fits», «Answered-fits», «One-simulated-tape», «One-honest-tape»};
+ghost use Rattle.releases.specs.Theorems.{«Satisfied-only», «Forks-satisfy», «Simulated-fits», «First-chosen», «Chosen-fits», «Answered-fits», «One-simulated-tape», «One-honest-tape», «Words», «Reading-sets»};
 
 pub fn satisfied_by_children_alone() -> u8
     ensures { λ _. ⌜ «Satisfied-only» ⌝ }
@@ -45,6 +45,18 @@ pub fn one_simulated_tape() -> u8
 
 pub fn one_honest_tape() -> u8
     ensures { λ _. ⌜ «One-honest-tape» ⌝ }
+{
+    0
+}
+
+pub fn words_are_transcripts() -> u8
+    ensures { λ _. ⌜ «Words» ⌝ }
+{
+    0
+}
+
+pub fn read_rules_are_settings() -> u8
+    ensures { λ _. ⌜ «Reading-sets» ⌝ }
 {
     0
 }
