@@ -4,3 +4,6 @@ pub mod Keys
 pub mod Making
 pub mod Forks
 pub mod Theorems
+pub mod Checks
+pub mod Calls
+pub mod Runs
