@@ -19,3 +19,5 @@ pub mod Choosing
 pub mod Making
 pub mod Tabled
 pub mod Spelling
+pub mod Checking
+pub mod Filing

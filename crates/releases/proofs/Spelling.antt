@@ -67,7 +67,7 @@ keys-forth (suc n) (a ∷ []) l = absurd (omega arith)
 keys-forth (suc n) (a ∷ b ∷ ws) l = ap (λ r. a ∷ b ∷ r) (keys-forth n ws (omega arith))
 
 module _ (rule : List Entry) where
-  shaped-parsed : (ws : List ℕ) → length ws ≡ length rule + 6 * leaves rule → Shaped rule (parsed rule ws)
+  pub shaped-parsed : (ws : List ℕ) → length ws ≡ length rule + 6 * leaves rule → Shaped rule (parsed rule ws)
   shaped-parsed ws e = record {
     challenges = length-map (take (length rule) ws) scalar ∙ length-take-le (length rule) ws (omega arith);
     commitments = images-long (leaves rule) (drop (length rule) ws);
