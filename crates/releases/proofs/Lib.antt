@@ -21,3 +21,6 @@ pub mod Tabled
 pub mod Spelling
 pub mod Checking
 pub mod Filing
+pub mod Running
+pub mod Standing
+pub mod Once
