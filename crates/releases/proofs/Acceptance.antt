@@ -1,19 +1,19 @@
 -- What is made is acceptable.
-use mathlib.Core.Path.{_≡_, refl, sym, ap, _∙_, subst}
+use mathlib.Core.Path.{_≡_, sym, ap, _∙_, subst}
 use mathlib.Core.Bool.{Bool}
 use mathlib.Core.List.{List, map}
-use Prim.Native.Nat.{ℕ, _-_, _<_, _≤_}
+use Prim.Native.Nat.{ℕ, _<_}
 use native.Mathlib.Omega.{arith}
 use lib.Dec.{T}
-use lib.ListN.{length, getD, length-map}
+use lib.ListN.{length, length-map}
 use Rattle.std.specs.declared.option.Option.{Option}
 use Rattle.fields.specs.Fields.{FieldLaws}
 use Rattle.fields.specs.Scalars.{scalar, scalars-model}
 use Rattle.fields.specs.declared.scalar.Scalar.{Scalar}
 use Rattle.fields.proofs.ScalarLaws.{scalar-laws}
-use Rattle.kinds.specs.Kinds.{KindModel, Key, KindLaws, Lawful}
+use Rattle.kinds.specs.Kinds.{KindModel, Key, KindLaws}
 use Rattle.kinds.specs.declared.image.Image.{Image}
-use Rattle.releases.specs.Entries.{Entry, leaf, gate, Leaf-at}
+use Rattle.releases.specs.Entries.{Entry, leaf, Leaf-at}
 use Rattle.releases.specs.Transcripts.{Transcript, challenge, commitment, response, is-scalar, IsKey, IsImage, raised, Acceptable}
 use Rattle.releases.specs.Keys.{key}
 use Rattle.releases.specs.Making.{Tape, drawn, held, Made}

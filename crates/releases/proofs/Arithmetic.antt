@@ -1,5 +1,5 @@
 -- Differences and quotients in a field.
-use mathlib.Core.Path.{_≡_, refl, sym, ap, _∙_}
+use mathlib.Core.Path.{_≡_, sym, ap, _∙_}
 use lib.Dec.{T}
 use Rattle.fields.specs.Fields.{FieldModel, FieldLaws, minus}
 

@@ -1,26 +1,24 @@
 -- What the checks of the calls have shown where nothing is told, and that nothing is told where it holds.
-use mathlib.Core.Path.{_≡_, refl, sym, ap, _∙_, subst}
-use mathlib.Core.Bool.{Bool, true, false, _&&_}
-use mathlib.Core.List.{List, [], _∷_, map}
+use mathlib.Core.Path.{_≡_, refl, sym, subst}
+use mathlib.Core.List.{List}
 use mathlib.Core.Logic.{_⊎_, inl, inr}
-use Prim.Native.Nat.{ℕ, zero, suc, _+_, _*_, _<_, _≤_}
+use Prim.Native.Nat.{ℕ, _+_, _*_, _<_}
 use native.Mathlib.Omega.{arith}
-use lib.Dec.{T, ltb, lt→ltb}
+use lib.Dec.{ltb, lt→ltb}
 use lib.Ieee.Fits.{and-i, and-l, and-r}
-use lib.ListN.{length, getD}
+use lib.ListN.{length}
 use Rattle.std.specs.declared.option.Option.{Option}
 use Rattle.std.specs.declared.option.Option.the-variants.{Some, None}
 use Rattle.refusals.specs.declared.Refusal.{Refusal}
-use Rattle.fields.specs.Scalars.{scalar}
 use Rattle.fields.specs.declared.scalar.Scalar.{Scalar}
 use Rattle.kinds.specs.Kinds.{KindModel, Key}
 use Rattle.kinds.specs.declared.image.Image.{Image}
 use Rattle.releases.specs.Entries.{Entry, leaf, gate, Leaf-at, to-leaf, number, leaves}
-use Rattle.releases.specs.Transcripts.{Transcript, challenge, response, is-scalar, parsed, Acceptable}
+use Rattle.releases.specs.Transcripts.{response, parsed, Acceptable}
 use Rattle.releases.specs.Keys.{key}
 use Rattle.releases.specs.Making.{Tape}
-use Rattle.releases.specs.Theorems.{Setting, Fit}
-use Rattle.releases.specs.Calls.{If-held, word-count, Fits, Keyed, Taped, Accepted, Written}
+use Rattle.releases.specs.Theorems.{Fit}
+use Rattle.releases.specs.Calls.{If-held, Keyed, Taped, Accepted, Written}
 use Rattle.releases.proofs.Places.{inside}
 use Rattle.releases.proofs.Laid.{before-small}
 use Rattle.releases.proofs.Spelling.{shaped-parsed}

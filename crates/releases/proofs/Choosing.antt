@@ -1,12 +1,12 @@
 -- The first k satisfied children: there is one such choice, and it is a choice of real entries.
 use mathlib.Core.Path.{_≡_, refl, sym, ap, ap₂, _∙_, subst, fun-ext}
 use mathlib.Core.Bool.{Bool, true, false, cond, not, _&&_}
-use mathlib.Core.List.{List, [], _∷_, map}
+use mathlib.Core.List.{List, [], _∷_}
 use mathlib.Core.Option.{Option as Found, some, none}
 use Prim.Native.Nat.{ℕ, zero, suc, _+_, _-_, _<_, _≤_, min}
 use native.Mathlib.Decide.{decLe}
 use native.Mathlib.Omega.{arith}
-use lib.Dec.{T, ltb, leb, leb→le, ltb→lt, nltb→le}
+use lib.Dec.{T, ltb, leb→le, ltb→lt, nltb→le}
 use lib.ListN.{length, getD, getElem?, take}
 use Rattle.std.specs.declared.option.Option.{Option}
 use Rattle.std.specs.declared.option.Option.the-variants.{Some, None}
@@ -17,7 +17,7 @@ use Rattle.releases.specs.Entries.{Entry, leaf, gate, Leaf-at, Gate-at, WellFo
 use Rattle.releases.specs.Transcripts.{IsKey}
 use Rattle.releases.specs.Keys.{key, opens, holds, satisfied, Satisfied, Opening}
 use Rattle.releases.specs.Making.{held, Chosen, First}
-use Rattle.releases.proofs.Places.{either, inside, is-true, is-false}
+use Rattle.releases.proofs.Places.{inside, is-true, is-false}
 use Rattle.releases.proofs.Satisfy.{satisfied-marks}
 use Rattle.releases.proofs.Given.{Sound}
 use Rattle.releases.proofs.Descend.{by-parent, descend, descend-root, descend-child}

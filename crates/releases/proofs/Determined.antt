@@ -1,8 +1,8 @@
 -- What is made is determined: the transcript by the challenge, and the commitments before it.
-use mathlib.Core.Path.{_≡_, refl, sym, ap, ap₂, _∙_, subst}
-use mathlib.Core.Bool.{Bool, true, false, cond, not}
-use mathlib.Core.List.{List, [], _∷_, map}
-use Prim.Native.Nat.{ℕ, zero, suc, _+_, _-_, _<_, _≤_}
+use mathlib.Core.Path.{_≡_, sym, ap, _∙_, subst}
+use mathlib.Core.Bool.{Bool, false, not}
+use mathlib.Core.List.{List, map}
+use Prim.Native.Nat.{ℕ, _-_, _<_}
 use native.Mathlib.Omega.{arith}
 use lib.Dec.{T, T-not}
 use lib.ListN.{length, getD, length-map}
@@ -15,15 +15,15 @@ use Rattle.fields.proofs.ScalarLaws.{scalar-laws}
 use Rattle.kinds.specs.Kinds.{KindModel, Key, zeros, add-keys, Lawful}
 use Rattle.kinds.specs.declared.image.Image.{Image}
 use Rattle.splits.specs.Gates.{Balanced}
-use Rattle.splits.specs.Marks.{missing, marked}
-use Rattle.releases.specs.Entries.{Entry, leaf, gate, Leaf-at, Gate-at, WellFormed, number, leaves}
-use Rattle.releases.specs.Transcripts.{Transcript, challenge, commitment, response, raised}
+use Rattle.splits.specs.Marks.{marked}
+use Rattle.releases.specs.Entries.{Entry, leaf, Gate-at, WellFormed}
+use Rattle.releases.specs.Transcripts.{Transcript, challenge, raised}
 use Rattle.releases.specs.Keys.{key, scale-key}
-use Rattle.releases.specs.Making.{drawn, share, given, held, Made, Begun}
-use Rattle.releases.proofs.Places.{either, inside, is-true, getD-map}
+use Rattle.releases.specs.Making.{drawn, given, held, Made, Begun}
+use Rattle.releases.proofs.Places.{either, inside, getD-map}
 use Rattle.releases.proofs.Laid.{leaf-by-leaf}
 use Rattle.releases.proofs.Gate.{same-children, marked-agree}
-use Rattle.releases.proofs.Given.{Sound, Marking, marking, given-real}
+use Rattle.releases.proofs.Given.{Sound, marking, given-real}
 use Rattle.releases.proofs.Descend.{by-parent}
 
 module _ (m : KindModel) (law : Lawful m) (rule : List Entry) (wf : WellFormed rule) (real : ℕ → Bool) (keys : List (Option Key)) (sound : Sound m rule keys real)

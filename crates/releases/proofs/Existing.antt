@@ -1,9 +1,9 @@
 -- Every tape and challenge make a transcript: challenges go down from gate to child.
-use mathlib.Core.Path.{_≡_, refl, sym, ap, ap₂, _∙_, subst}
-use mathlib.Core.Bool.{Bool, true, false, cond, not}
-use mathlib.Core.List.{List, [], _∷_, map}
+use mathlib.Core.Path.{_≡_, refl, sym, ap, _∙_, subst}
+use mathlib.Core.Bool.{Bool, cond}
+use mathlib.Core.List.{List, [], map}
 use mathlib.Core.Option.{Option as Found, some, none}
-use Prim.Native.Nat.{ℕ, zero, suc, _+_, _-_, _%_, _<_, _≤_}
+use Prim.Native.Nat.{ℕ, _-_, _%_, _<_}
 use native.Mathlib.Nat.{mod-lt, mod-eq-of-lt}
 use native.Mathlib.Omega.{arith}
 use lib.Dec.{T, ltb→lt, lt→ltb}
@@ -26,7 +26,7 @@ use Rattle.releases.specs.Making.{Tape, share, drawn, given, held, Made}
 use Rattle.releases.proofs.Places.{inside, is-true, is-false, getD-map, run, length-run, getD-run}
 use Rattle.releases.proofs.Laid.{at-leaf, at-leaf-length, at-leaf-is}
 use Rattle.releases.proofs.Gate.{complete, child-in}
-use Rattle.releases.proofs.Given.{Sound, Marking, marking, tape-share-long, share-in}
+use Rattle.releases.proofs.Given.{Sound, marking, tape-share-long, share-in}
 use Rattle.releases.proofs.Descend.{by-parent, descend, descend-root, descend-child}
 use Rattle.releases.proofs.Determined.{made-same}
 

@@ -1,18 +1,17 @@
 -- Two acceptable transcripts with equal commitments and different challenges give keys that open their leaves and satisfy the rule.
-use mathlib.Core.Path.{_≡_, refl, sym, ap, ap₂, _∙_, subst}
-use mathlib.Core.Bool.{Bool, true, false}
-use mathlib.Core.List.{List, [], _∷_, map}
+use mathlib.Core.Path.{_≡_, refl, sym, ap, _∙_, subst}
+use mathlib.Core.List.{List}
 use mathlib.Core.Option.{Option as Found, some, none}
-use Prim.Native.Nat.{ℕ, zero, suc, _+_, _<_, _≤_}
+use Prim.Native.Nat.{ℕ, _<_}
 use native.Mathlib.Omega.{arith}
-use lib.Dec.{T, leb, le→leb}
+use lib.Dec.{T, le→leb}
 use lib.ListN.{length, getD, getElem?}
 use Rattle.std.specs.declared.option.Option.{Option}
 use Rattle.std.specs.declared.option.Option.the-variants.{Some, None}
 use Rattle.fields.specs.Fields.{FieldLaws}
-use Rattle.fields.specs.Scalars.{scalar, scalars-model}
+use Rattle.fields.specs.Scalars.{scalars-model}
 use Rattle.fields.proofs.ScalarLaws.{scalar-laws}
-use Rattle.kinds.specs.Kinds.{KindModel, Key, zeros, KindLaws, Lawful}
+use Rattle.kinds.specs.Kinds.{KindModel, Key, zeros}
 use Rattle.kinds.specs.declared.image.Image.{Image}
 use Rattle.releases.specs.Entries.{Entry, leaf, gate, Leaf-at, count, number}
 use Rattle.releases.specs.Transcripts.{Transcript, challenge, commitment, response, IsKey, raised, Acceptable}

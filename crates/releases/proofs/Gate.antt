@@ -3,7 +3,7 @@
 use mathlib.Core.Path.{_≡_, refl, sym, ap, ap₂, _∙_, subst}
 use mathlib.Core.Bool.{Bool, true, false, cond}
 use mathlib.Core.List.{List, [], _∷_, map}
-use Prim.Native.Nat.{ℕ, zero, suc, _+_, _-_, _≤_, _<_}
+use Prim.Native.Nat.{ℕ, zero, suc, _+_, _≤_, _<_}
 use native.Mathlib.Nat.{suc-inj, not-suc-le-zero, le-of-suc-le-suc}
 use native.Mathlib.Omega.{arith}
 use lib.Dec.{T}
@@ -16,7 +16,7 @@ use Rattle.splits.specs.Gates.{Balanced, Agree, Differing}
 use Rattle.splits.specs.Gates.{none, same, other}
 use Rattle.splits.specs.Marks.{missing, marked, points-from}
 use Rattle.splits.proofs.Picked.{all-from, members-from}
-use Rattle.splits.proofs.Splitting.{nodes, values, Solved, nodes-in, values-in, nodes-apart, as-long, is-balanced, is-kept, is-in, is-only}
+use Rattle.splits.proofs.Splitting.{nodes, values, Solved, nodes-in, values-in, nodes-apart, as-long, is-balanced, is-kept, is-only}
 use Rattle.splits.proofs.Forks.{at-least-differ}
 use Rattle.releases.specs.Entries.{count}
 use Rattle.releases.proofs.Places.{run, length-run, getD-run}

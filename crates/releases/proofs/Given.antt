@@ -1,23 +1,23 @@
 -- What making needs of the real entries, the children that a share gives, and a leaf's share as a key.
-use mathlib.Core.Path.{_≡_, refl, sym, ap, ap₂, _∙_, subst}
+use mathlib.Core.Path.{_≡_, refl, sym, ap, _∙_, subst}
 use mathlib.Core.Bool.{Bool, true, false, cond, not}
 use mathlib.Core.List.{List, [], _∷_, map}
 use mathlib.Core.Option.{some}
-use Prim.Native.Nat.{ℕ, zero, suc, _+_, _-_, _<_, _≤_}
+use Prim.Native.Nat.{ℕ, zero, suc, _-_, _<_}
 use native.Mathlib.Decide.{decLe}
 use native.Mathlib.Omega.{arith}
 use lib.Dec.{T, ltb→lt}
-use lib.ListN.{length, getD, getElem?, take, drop, length-drop, length-map}
+use lib.ListN.{length, getD, getElem?, drop, length-drop, length-map}
 use Rattle.std.proofs.shelf.Lists.{getD-past}
 use Rattle.std.specs.declared.option.Option.{Option}
 use Rattle.fields.specs.Scalars.{scalar, scalars-model}
 use Rattle.fields.specs.declared.scalar.Scalar.{Scalar}
 use Rattle.polynomials.specs.Polynomials.{Members}
 use Rattle.polynomials.proofs.Steps.{members-take, members-drop}
-use Rattle.kinds.specs.Kinds.{KindModel, Key, KindLaws, Lawful}
+use Rattle.kinds.specs.Kinds.{KindModel, Key, Lawful}
 use Rattle.kinds.specs.declared.image.Image.{Image}
 use Rattle.splits.specs.Marks.{missing}
-use Rattle.releases.specs.Entries.{Entry, leaf, gate, Leaf-at, Gate-at, WellFormed, Known, count, before, total}
+use Rattle.releases.specs.Entries.{Entry, leaf, Leaf-at, Gate-at, WellFormed, Known, count, before}
 use Rattle.releases.specs.Transcripts.{IsKey}
 use Rattle.releases.specs.Keys.{key}
 use Rattle.releases.specs.Making.{share-size, Tape, share, drawn, first-marks, given, held}

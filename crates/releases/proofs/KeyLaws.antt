@@ -1,18 +1,18 @@
 -- Keys of a width: sums, differences and multiples of keys are keys.
 --   Fits q n w    w is a key of width n, as what its two scalars are
 use mathlib.Core.Path.{_≡_, refl, sym, ap, ap₂, _∙_, subst}
-use mathlib.Core.Bool.{Bool, true, false, cond, _&&_}
+use mathlib.Core.Bool.{cond, _&&_}
 use Prim.Native.Nat.{ℕ, zero, suc, _+_, _-_, _*_, _%_, _<_, _≤_}
 use native.Mathlib.Nat.{mod-lt, mul-zero, zero-mod, mod-self}
 use native.Mathlib.Omega.{arith}
-use lib.Dec.{T, eqb, ltb, ltb→lt, lt→ltb, eqb→eq, eqb-refl}
+use lib.Dec.{T, eqb, ltb, ltb→lt, lt→ltb, eqb→eq}
 use lib.Ieee.Fits.{and-i, and-l, and-r}
 use Rattle.fields.specs.Fields.{FieldLaws}
 use Rattle.fields.specs.Scalars.{scalar, scalars-model}
 use Rattle.fields.specs.declared.scalar.Scalar.{Scalar}
 use Rattle.kinds.specs.Kinds.{Key, is-key, add-keys}
 use Rattle.releases.specs.Keys.{sub-keys, scale-key}
-use Rattle.releases.proofs.Arithmetic.{minus-plus, plus-minus, times-zero}
+use Rattle.releases.proofs.Arithmetic.{minus-plus, plus-minus}
 
 pub record Fits (q n : ℕ) (w : Key) : Type 0 where
   pub first : w .0 .0 < q

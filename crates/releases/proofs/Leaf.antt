@@ -1,11 +1,11 @@
 -- Leaves: forking, simulating and answering, from the laws of one kind alone.
-use mathlib.Core.Path.{_≡_, refl, sym, ap, ap₂, _∙_, subst}
+use mathlib.Core.Path.{_≡_, sym, ap, ap₂, _∙_}
 use Prim.Native.Nat.{ℕ, zero, suc, _+_, _-_, _*_, _%_, _<_, _≤_}
-use native.Mathlib.Nat.{zero-mod, mod-lt, suc-mul, zero-mul, mul-suc, mul-zero, add-comm, add-mod-mod}
+use native.Mathlib.Nat.{zero-mod, suc-mul, zero-mul, mul-suc, mul-zero, add-comm, add-mod-mod}
 use native.Mathlib.Omega.{arith}
 use lib.Dec.{T, lt→ltb, ltb→lt, ltb}
 use Rattle.fields.specs.Primes.{Prime}
-use Rattle.fields.specs.Fields.{FieldModel, FieldLaws, minus}
+use Rattle.fields.specs.Fields.{FieldLaws, minus}
 use Rattle.fields.specs.Scalars.{scalar, scalars-model}
 use Rattle.fields.specs.declared.scalar.Scalar.{Scalar}
 use Rattle.fields.proofs.ScalarLaws.{scalar-laws}

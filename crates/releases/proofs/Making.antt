@@ -1,6 +1,6 @@
 -- Simulated and answered transcripts: each exists once, is acceptable, and has one tape.
 use mathlib.Core.Path.{_≡_, subst}
-use mathlib.Core.Bool.{Bool, true, false}
+use mathlib.Core.Bool.{Bool, false}
 use mathlib.Core.List.{List, []}
 use Prim.Native.Nat.{ℕ}
 use native.Mathlib.Omega.{arith}
@@ -8,7 +8,7 @@ use lib.Dec.{T, lt→ltb}
 use Rattle.std.specs.declared.option.Option.{Option}
 use Rattle.fields.specs.Scalars.{scalar}
 use Rattle.fields.specs.declared.scalar.Scalar.{Scalar}
-use Rattle.kinds.specs.Kinds.{KindModel, Key, Lawful}
+use Rattle.kinds.specs.Kinds.{KindModel, Key}
 use Rattle.kinds.specs.declared.image.Image.{Image}
 use Rattle.rules.specs.Tables.{Only}
 use Rattle.releases.specs.Entries.{Entry}

@@ -1,10 +1,10 @@
 -- The quotient of responses by challenges: there is one, and a fork writes it exactly where the challenges differ.
-use mathlib.Core.Path.{_≡_, refl, sym, ap, ap₂, _∙_, subst}
+use mathlib.Core.Path.{_≡_, refl, sym, ap, ap₂, _∙_}
 use mathlib.Core.List.{List}
 use Prim.Native.Nat.{ℕ, _+_, _-_, _%_, _<_}
 use native.Mathlib.Nat.{mod-lt}
 use lib.Dec.{T, ltb, ltb→lt, lt→ltb}
-use lib.ListN.{length, getD}
+use lib.ListN.{length}
 use Rattle.std.specs.declared.option.Option.{Option}
 use Rattle.std.specs.declared.option.Option.the-variants.{Some, None}
 use Rattle.fields.specs.Fields.{FieldLaws, minus}
@@ -13,13 +13,13 @@ use Rattle.fields.specs.declared.scalar.Scalar.{Scalar}
 use Rattle.kinds.specs.Kinds.{Key}
 use Rattle.kinds.specs.declared.image.Image.{Image}
 use Rattle.rules.specs.Tables.{Only}
-use Rattle.releases.specs.Entries.{Entry, leaf, Leaf-at, laid, number, leaves}
+use Rattle.releases.specs.Entries.{Entry, leaf, Leaf-at, laid}
 use Rattle.releases.specs.Transcripts.{Transcript, challenge, response}
-use Rattle.releases.specs.Keys.{key, sub-keys, scale-key}
+use Rattle.releases.specs.Keys.{key, scale-key}
 use Rattle.releases.specs.Forks.{Quotient, Forked}
 use Rattle.releases.proofs.Places.{inside}
 use Rattle.releases.proofs.Laid.{at-leaf, at-leaf-length, at-leaf-is, leaf-by-leaf}
-use Rattle.releases.proofs.Arithmetic.{minus-in, minus-apart, quotient, cancel-times}
+use Rattle.releases.proofs.Arithmetic.{minus-apart, quotient, cancel-times}
 
 module _ (q : ℕ) (pos : 0 < q) (laws : FieldLaws (scalars-model q)) where
   abbrev In : Scalar → Type 0

@@ -1,25 +1,24 @@
 -- The tape read back off a transcript: it makes the transcript, and no other does.
-use mathlib.Core.Path.{_≡_, refl, sym, ap, ap₂, _∙_, subst}
-use mathlib.Core.Bool.{Bool, true, false, cond, not}
+use mathlib.Core.Path.{_≡_, refl, sym, ap, _∙_, subst}
+use mathlib.Core.Bool.{Bool, cond, not}
 use mathlib.Core.List.{List, [], _∷_, map}
 use mathlib.Core.Option.{some}
-use Prim.Native.Nat.{ℕ, zero, suc, _+_, _-_, _<_, _≤_}
+use Prim.Native.Nat.{ℕ, zero, suc, _-_, _<_, _≤_}
 use native.Mathlib.Omega.{arith}
 use lib.Dec.{T, lt→ltb}
 use lib.ListN.{length, getD, getElem?, take, length-map}
 use lib.Seq.{ext-getD, length-take-le}
 use Rattle.std.specs.declared.option.Option.{Option}
-use Rattle.fields.specs.Fields.{FieldLaws}
-use Rattle.fields.specs.Scalars.{scalar, scalars-model}
+use Rattle.fields.specs.Scalars.{scalar}
 use Rattle.fields.specs.declared.scalar.Scalar.{Scalar}
 use Rattle.fields.proofs.ScalarLaws.{scalar-laws}
 use Rattle.polynomials.proofs.Roots.{All}
-use Rattle.kinds.specs.Kinds.{KindModel, Key, add-keys, KindLaws, Lawful}
+use Rattle.kinds.specs.Kinds.{KindModel, Key, add-keys, KindLaws}
 use Rattle.kinds.specs.declared.image.Image.{Image}
 use Rattle.rules.specs.Tables.{Only}
-use Rattle.splits.specs.Marks.{missing, marked}
+use Rattle.splits.specs.Marks.{marked}
 use Rattle.splits.proofs.Picked.{length-marked, all-at, all-from, all-marked}
-use Rattle.releases.specs.Entries.{Entry, leaf, gate, Leaf-at, Gate-at, laid}
+use Rattle.releases.specs.Entries.{Entry, leaf, gate, Leaf-at, laid}
 use Rattle.releases.specs.Transcripts.{Transcript, challenge, commitment, response, is-scalar, IsKey, raised, Acceptable}
 use Rattle.releases.specs.Keys.{key, sub-keys, scale-key}
 use Rattle.releases.specs.Making.{share-size, Tape, share, drawn, given, held, Made}
@@ -28,7 +27,7 @@ use Rattle.releases.proofs.Places.{either, inside, is-true, is-false, getD-map
 use Rattle.releases.proofs.Laid.{Sized, laid-length, laid-share, laid-all, shares-same}
 use Rattle.releases.proofs.KeyLaws.{Fits, key-fits, key-forth}
 use Rattle.releases.proofs.Leaf.{only-fitting, nonce-back, nonce-image, sub-in, scale-in}
-use Rattle.releases.proofs.Given.{Sound, Marking, marking, drawn-key, tape-share-long}
+use Rattle.releases.proofs.Given.{Sound, marking, drawn-key, tape-share-long}
 
 -- the scalars of a key of width n, and the key of these
 abbrev scalars-of : ℕ → Key → List Scalar

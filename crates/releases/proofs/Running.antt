@@ -1,10 +1,10 @@
 -- What each call keeps, and what follows of any list of calls.
-use mathlib.Core.Path.{_≡_, refl, sym, ap, ap₂, _∙_, subst}
-use mathlib.Core.Bool.{Bool, true, false, cond, not, _&&_}
-use mathlib.Core.List.{List, [], _∷_, map}
-use mathlib.Core.Option.{some, none}
-use mathlib.Core.Logic.{_⊎_, inl, inr, _≢_}
-use Prim.Native.Nat.{ℕ, zero, suc, _+_, _-_, _*_, _<_, _≤_}
+use mathlib.Core.Path.{_≡_, refl, sym, ap, _∙_, subst}
+use mathlib.Core.Bool.{Bool, true, false, cond, _&&_}
+use mathlib.Core.List.{List, [], _∷_}
+use mathlib.Core.Option.{some}
+use mathlib.Core.Logic.{_⊎_, inl, inr}
+use Prim.Native.Nat.{ℕ, zero, suc, _-_}
 use native.Mathlib.Omega.{arith}
 use lib.Dec.{T, eqb, leb, eqb→eq, eqb-refl, leb→le, le→leb, T-not}
 use lib.Ieee.Fits.{and-i, and-l, and-r}
@@ -19,8 +19,8 @@ use Rattle.releases.specs.Entries.{Entry}
 use Rattle.releases.specs.Transcripts.{is-scalar, parsed, Acceptable}
 use Rattle.releases.specs.Making.{Tape}
 use Rattle.releases.specs.Theorems.{Setting, Fit}
-use Rattle.releases.specs.Checks.{Clear, Test}
-use Rattle.releases.specs.Calls.{Held, Bench, fresh, Call, commit, answer, scrap, simulate, file, remove, fork, Reply, refused, committed, wrote, gave, done, slot-at, with-slot, with-holds, names, IsSlot, Keyed, Taped, Accepted, Refuses, after-refusal, Written, Obeyed, Outcome, Step}
+use Rattle.releases.specs.Checks.{Clear}
+use Rattle.releases.specs.Calls.{Held, Bench, fresh, Call, commit, answer, scrap, simulate, file, remove, fork, Reply, refused, committed, wrote, gave, done, slot-at, with-slot, with-holds, names, IsSlot, Taped, Refuses, after-refusal, Written, Obeyed, Outcome, Step}
 use Rattle.releases.specs.Runs.{Event, Run}
 use Rattle.releases.proofs.Filing.{changed, filed}
 use Rattle.releases.proofs.Places.{either, is-true, is-false, none-some, some-inj}

@@ -1,12 +1,12 @@
 -- The equation of satisfied entries, and that it has one solution.
-use mathlib.Core.Path.{_≡_, refl, sym, ap, ap₂, _∙_, subst}
-use mathlib.Core.Bool.{Bool, true, false, cond, _&&_}
-use mathlib.Core.List.{List, [], _∷_}
+use mathlib.Core.Path.{_≡_, refl, sym, ap, _∙_}
+use mathlib.Core.Bool.{Bool}
+use mathlib.Core.List.{List}
 use mathlib.Core.Option.{Option as Found, some, none}
 use Prim.Native.Nat.{ℕ, zero, suc, _+_, _<_, _≤_}
 use native.Mathlib.Omega.{arith}
-use lib.Dec.{T, eqb, leb, eqb→eq, eqb-refl}
-use lib.Ieee.Fits.{and-i, and-l, and-r}
+use lib.Dec.{T, leb, eqb-refl}
+use lib.Ieee.Fits.{and-i}
 use lib.ListN.{length, getD, getElem?}
 use Rattle.std.specs.declared.option.Option.{Option}
 use Rattle.kinds.specs.Kinds.{KindModel, Key}

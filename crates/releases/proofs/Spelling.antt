@@ -1,9 +1,9 @@
 -- Words and transcripts: parsing and spelling undo each other.
-use mathlib.Core.Path.{_≡_, refl, sym, ap, ap₂, _∙_}
-use mathlib.Core.List.{List, [], _∷_, _++_, map, append-assoc}
-use Prim.Native.Nat.{ℕ, zero, suc, _+_, _-_, _*_, _<_, _≤_}
+use mathlib.Core.Path.{_≡_, refl, sym, ap, _∙_}
+use mathlib.Core.List.{List, [], _∷_, _++_, map}
+use Prim.Native.Nat.{ℕ, zero, suc, _+_, _*_, _≤_}
 use native.Mathlib.Omega.{arith}
-use lib.ListN.{length, getD, take, drop, take-append-drop, length-append, length-drop, length-map}
+use lib.ListN.{length, take, drop, take-append-drop, length-append, length-drop, length-map}
 use lib.Seq.{take-at, drop-at, drop-drop, length-take-le}
 use Rattle.fields.specs.Scalars.{scalar}
 use Rattle.fields.specs.declared.scalar.Scalar.{Scalar}

@@ -1,28 +1,28 @@
 -- The theorem over every list of calls.
-use mathlib.Core.Path.{_≡_, refl, sym, ap, ap₂, _∙_, subst}
-use mathlib.Core.Bool.{Bool, true, false, cond}
+use mathlib.Core.Path.{_≡_, refl, sym, ap, _∙_, subst}
+use mathlib.Core.Bool.{cond}
 use mathlib.Core.List.{List, [], _∷_}
-use mathlib.Core.Option.{some, none}
-use mathlib.Core.Logic.{_⊎_, inl, inr}
+use mathlib.Core.Option.{some}
+use mathlib.Core.Logic.{inl, inr}
 use Prim.Native.Nat.{ℕ, zero, suc, _-_, _<_}
 use native.Mathlib.Omega.{arith}
-use lib.Dec.{T, eqb, eqb-refl}
-use lib.ListN.{length, getD, getElem?}
+use lib.Dec.{eqb, eqb-refl}
+use lib.ListN.{getD, getElem?}
 use Rattle.std.specs.declared.option.Option.{Option}
 use Rattle.std.specs.declared.option.Option.the-variants.{Some, None}
 use Rattle.refusals.specs.declared.Refusal.{Refusal}
-use Rattle.kinds.specs.Kinds.{KindModel, Key, zeros, Lawful}
+use Rattle.kinds.specs.Kinds.{KindModel, Key, zeros}
 use Rattle.releases.specs.Entries.{Entry, leaves}
-use Rattle.releases.specs.Transcripts.{Transcript, challenge, parsed, Acceptable}
+use Rattle.releases.specs.Transcripts.{challenge, parsed}
 use Rattle.releases.specs.Forks.{Forked}
 use Rattle.releases.specs.Theorems.{Setting, Fit}
 use Rattle.releases.specs.Checks.{Clear}
 use Rattle.releases.specs.Calls.{Bench, fresh, Call, file, remove, fork, Reply, refused, committed, wrote, gave, done, slot-at, with-slot, IsSlot, Filled, content, Refuses, Outcome, Step}
-use Rattle.releases.specs.Runs.{Event, Run, Filed, Vacant, Stands, Always-stands}
+use Rattle.releases.specs.Runs.{Event, Run, Filed, Vacant, Always-stands}
 use Rattle.releases.proofs.Filing.{changed, filed, View, view, vacant-none}
 use Rattle.releases.proofs.Places.{is-true, none-some, some-inj}
 use Rattle.releases.proofs.Checking.{passed, accepted-clear}
-use Rattle.releases.proofs.Running.{shown, shown-slot, slot-shown, Good-words, Inv, Kept, step-kept, Ran, run-kept, fresh-inv, fresh-shown}
+use Rattle.releases.proofs.Running.{shown, shown-slot, slot-shown, Inv, step-kept, Ran, run-kept, fresh-inv, fresh-shown}
 use Rattle.releases.proofs.Forking.{forks-satisfy}
 
 abbrev is-done : Reply → Type 0

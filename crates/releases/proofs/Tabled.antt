@@ -1,6 +1,6 @@
 -- The entries of a well-formed table are well formed, and those of a ring that was read are stated.
-use mathlib.Core.Path.{_≡_, refl, sym, ap, _∙_, subst}
-use mathlib.Core.Bool.{Bool, true, false, cond, _&&_}
+use mathlib.Core.Path.{_≡_, refl, sym, ap, subst}
+use mathlib.Core.Bool.{Bool, true, false, cond}
 use mathlib.Core.List.{List, [], _∷_}
 use mathlib.Core.Option.{Option as Found, some, none}
 use Prim.Native.Nat.{ℕ, zero, suc, _+_, _<_, _≤_}
@@ -13,14 +13,14 @@ use Rattle.std.specs.declared.option.Option.the-variants.{Some, None}
 use Rattle.refusals.specs.declared.Refusal.{Refusal}
 use Rattle.refusals.specs.declared.Refusal.the-variants.{NotInRing, NotRising, NoImage, RingLength}
 use Rattle.refusals.specs.Checks.{unless, or-else, first}
-use Rattle.kinds.specs.Kinds.{KindModel, Kind, zeros, no-kind, Lawful}
+use Rattle.kinds.specs.Kinds.{KindModel, Kind, Lawful}
 use Rattle.kinds.specs.declared.image.Image.{Image}
-use Rattle.rules.specs.Tables.{Row, leaf as key-row, node as gate-row, Gate-at as Gate-row, Child as Child-row, WellFormed as FormedRows, Only}
-use Rattle.rings.specs.Rings.{whole, ring-lines, line-refusal, lines-refusal, ring-refusal}
+use Rattle.rules.specs.Tables.{Row, leaf as key-row, node as gate-row, Gate-at as Gate-row, WellFormed as FormedRows}
+use Rattle.rings.specs.Rings.{whole, ring-lines, line-refusal, lines-refusal}
 use Rattle.rings.specs.Pairings.{line-of, missing-at, with-line, pair-refusal, paired}
 use Rattle.rings.specs.declared.line.Line.{Line}
 use Rattle.polynomials.proofs.Roots.{All}
-use Rattle.releases.specs.Entries.{Entry, leaf, gate, entries, Leaf-at, Gate-at, Child, WellFormed, Known, Stated}
+use Rattle.releases.specs.Entries.{Entry, leaf, gate, entries, Gate-at, WellFormed, Known, Stated}
 use Rattle.releases.specs.Theorems.{Reading-sets}
 use Rattle.releases.proofs.Places.{none-some}
 

@@ -8,7 +8,7 @@
 --   Satisfied m rule keys     the keys satisfy the rule: entry 0 is satisfied
 --   Opening m rule keys       one to a leaf, each absent or a key of its leaf's width that opens it
 use mathlib.Core.Path.{_≡_}
-use mathlib.Core.Bool.{Bool, true, false, cond, _&&_}
+use mathlib.Core.Bool.{Bool, false, _&&_}
 use mathlib.Core.List.{List}
 use mathlib.Core.Option.{Option as Found, some, none}
 use Prim.Native.Nat.{ℕ, zero, suc}

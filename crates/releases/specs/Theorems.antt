@@ -23,7 +23,6 @@ use Rattle.std.specs.declared.option.Option.{Option}
 use Rattle.std.specs.declared.option.Option.the-variants.{None}
 use Rattle.fields.specs.declared.scalar.Scalar.{Scalar}
 use Rattle.kinds.specs.Kinds.{KindModel, Key, Lawful}
-use Rattle.kinds.specs.declared.image.Image.{Image}
 use Rattle.rules.specs.Tables.{Row, WellFormed as FormedRows, Only}
 use Rattle.rings.specs.Rings.{ring-lines, ring-refusal}
 use Rattle.rings.specs.Pairings.{pair-refusal, paired}
