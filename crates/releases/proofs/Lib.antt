@@ -24,3 +24,4 @@ pub mod Filing
 pub mod Running
 pub mod Standing
 pub mod Once
+pub mod Deciding
