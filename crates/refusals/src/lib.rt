@@ -59,6 +59,42 @@ pub enum Refusal {
     NoImage(u8),
     // an output is not as long as what is to be written
     OutputLength,
+    // a list of keys has another length than the rule has leaves
+    KeyCount(u32),
+    // no key of the leaf's width
+    NoKey(u8),
+    // a key's image is not its leaf's statement
+    Unopened(u8),
+    // the keys do not satisfy the rule
+    Unsatisfied,
+    // a tape has another length than the shares of the rule together
+    TapeLength(u32),
+    // a tape's word is not below q
+    NoScalar(u8),
+    // a challenge is not below q
+    ChallengeRange,
+    // a chit does not name the held commitment
+    NotHeld,
+    // 65,535 commitments were made
+    CountFull,
+    // a transcript is not N + 6L words
+    TranscriptLength,
+    // a word of a transcript is no scalar, no image's first or no part of a key
+    UnfitWord(u8),
+    // a gate does not balance
+    Unbalanced(u8),
+    // a leaf's equation does not hold
+    EquationFails(u8),
+    // a slot has a transcript already
+    SlotFilled(u32),
+    // slots are numbered from 1 to 8
+    NoSlot(u32),
+    // a slot has no transcript
+    SlotEmpty(u32),
+    // two transcripts have different commitments at a leaf
+    CommitmentsDiffer(u8),
+    // two transcripts have the same challenge
+    ChallengesEqual,
 }
 
 impl Parameter {
@@ -108,6 +144,24 @@ impl Refusal {
             Refusal::NotRising(_) => 12,
             Refusal::NoImage(_) => 13,
             Refusal::OutputLength => 21,
+            Refusal::KeyCount(_) => 14,
+            Refusal::NoKey(_) => 14,
+            Refusal::Unopened(_) => 15,
+            Refusal::Unsatisfied => 16,
+            Refusal::TapeLength(_) => 17,
+            Refusal::NoScalar(_) => 17,
+            Refusal::ChallengeRange => 18,
+            Refusal::NotHeld => 19,
+            Refusal::CountFull => 20,
+            Refusal::TranscriptLength => 22,
+            Refusal::UnfitWord(_) => 23,
+            Refusal::Unbalanced(_) => 24,
+            Refusal::EquationFails(_) => 25,
+            Refusal::SlotFilled(_) => 26,
+            Refusal::NoSlot(_) => 27,
+            Refusal::SlotEmpty(_) => 27,
+            Refusal::CommitmentsDiffer(_) => 28,
+            Refusal::ChallengesEqual => 29,
         }
     }
 
@@ -135,6 +189,24 @@ impl Refusal {
             Refusal::NotRising(line) => line as u32,
             Refusal::NoImage(line) => line as u32,
             Refusal::OutputLength => 0,
+            Refusal::KeyCount(length) => length,
+            Refusal::NoKey(leaf) => leaf as u32,
+            Refusal::Unopened(leaf) => leaf as u32,
+            Refusal::Unsatisfied => 0,
+            Refusal::TapeLength(length) => length,
+            Refusal::NoScalar(index) => index as u32,
+            Refusal::ChallengeRange => 0,
+            Refusal::NotHeld => 0,
+            Refusal::CountFull => 0,
+            Refusal::TranscriptLength => 0,
+            Refusal::UnfitWord(word) => word as u32,
+            Refusal::Unbalanced(entry) => entry as u32,
+            Refusal::EquationFails(leaf) => leaf as u32,
+            Refusal::SlotFilled(slot) => slot,
+            Refusal::NoSlot(slot) => slot,
+            Refusal::SlotEmpty(slot) => slot,
+            Refusal::CommitmentsDiffer(leaf) => leaf as u32,
+            Refusal::ChallengesEqual => 0,
         }
     }
 
@@ -168,6 +240,25 @@ impl Refusal {
             Refusal::NoImage(_) =>
                 "the line's kind is unknown, or its four words are no image of that kind",
             Refusal::OutputLength => "the output is not as long as what is to be written",
+            Refusal::KeyCount(_) => "a list of keys has one place for each leaf",
+            Refusal::NoKey(_) =>
+                "the leaf's key has not its kind's width, or is no pair of scalars",
+            Refusal::Unopened(_) => "the key does not open its leaf",
+            Refusal::Unsatisfied => "the keys do not satisfy the rule",
+            Refusal::TapeLength(_) => "the tape is not as long as the rule's shares together",
+            Refusal::NoScalar(_) => "the tape's word is no scalar",
+            Refusal::ChallengeRange => "the challenge is no scalar",
+            Refusal::NotHeld => "the chit does not name the held commitment",
+            Refusal::CountFull => "the bench has made 65535 commitments",
+            Refusal::TranscriptLength => "the transcript is not as long as the rule asks",
+            Refusal::UnfitWord(_) => "the transcript's word does not fit",
+            Refusal::Unbalanced(_) => "the gate does not balance",
+            Refusal::EquationFails(_) => "the leaf's equation does not hold",
+            Refusal::SlotFilled(_) => "the slot has a transcript already",
+            Refusal::NoSlot(_) => "slots are numbered from 1 to 8",
+            Refusal::SlotEmpty(_) => "the slot has no transcript",
+            Refusal::CommitmentsDiffer(_) => "the transcripts' commitments differ",
+            Refusal::ChallengesEqual => "the transcripts' challenges are equal",
         }
     }
 }

@@ -1,0 +1,9 @@
+pub mod Entries
+pub mod Transcripts
+pub mod Keys
+pub mod Making
+pub mod Forks
+pub mod Theorems
+pub mod Checks
+pub mod Calls
+pub mod Runs
