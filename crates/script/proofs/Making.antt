@@ -20,6 +20,8 @@ use Rattle.script_kinds.specs.declared.answering.KindReply.{KindReply}
 use Rattle.script_kinds.specs.KindReplies.{residue-parts, circle-parts, kind-reply}
 use Rattle.script_rules.specs.declared.reading.RuleCommand.{RuleCommand}
 use Rattle.script_rules.specs.declared.answering.RuleReply.{RuleReply}
+use Rattle.script_gates.specs.declared.answering.GateReply.{GateReply}
+use Rattle.script_gates.specs.GateReplies.{Says}
 use Rattle.script.specs.declared.questions.Question.{Question}
 use Rattle.script.specs.declared.scalar_commands.ScalarCommand.{ScalarCommand}
 use Rattle.script.specs.declared.scalar_commands.ScalarReply.{ScalarReply}
@@ -70,6 +72,10 @@ scalar-obeyed m c line sc x r e er h = subst (λ k. Obeyed m k line r m) (sym e)
 pub rule-obeyed : (m n : Model) (c : Command) (line : List ℕ) (rc : RuleCommand) (x : Result RuleReply Fault) (r : Result Reply Fault) → c ≡ commands.Rule rc
     → r ≡ among replies.Rule x → Rule-step m rc line x n → Obeyed m c line r n
 rule-obeyed m n c line rc x r e er h = subst (λ k. Obeyed m k line r n) (sym e) (x, er, h)
+
+pub gate-obeyed : (m : Model) (c : Command) (line : List ℕ) (x : Result GateReply Fault) (r : Result Reply Fault) → c ≡ commands.Gate → r ≡ among replies.Gate x → Says x
+    → Obeyed m c line r m
+gate-obeyed m c line x r e er h = subst (λ k. Obeyed m k line r m) (sym e) ((x, er, h), refl)
 
 pub kinds-answer : (s : Session) (r : ResidueGroup) (k : CircleGroup) (x : KindCommand) (y : KindReply) → s .residue ≡ Some r → s .circle ≡ Some k
     → y ≡ kind-reply (residue-parts r) (circle-parts k) x → Ok y ≡ kinds-asked (model s) x

@@ -38,6 +38,8 @@ use Rattle.script_rules.specs.declared.reading.RuleCommand.the-variants.{Read, 
 use Rattle.script_rules.specs.declared.answering.RuleReply.{RuleReply}
 use Rattle.script_rules.specs.RuleCommands.{rule-text}
 use Rattle.script_rules.specs.RuleReplies.{Reading, Writing, rule-of}
+use Rattle.script_gates.specs.declared.answering.GateReply.{GateReply}
+use Rattle.script_gates.specs.GateReplies.{Says}
 use Rattle.script.specs.declared.questions.Question.{Question}
 use Rattle.script.specs.declared.group_commands.GroupCommand.{GroupCommand}
 use Rattle.script.specs.declared.group_commands.GroupCommand.the-variants.{MakeResidue, MakeCircle, Ask}
@@ -135,6 +137,7 @@ Obeyed m (commands.Group c) line r n = (r ≡ among replies.Group (group-step m 
 Obeyed m (commands.Scalar c) line r n = ((x : Result ScalarReply Fault) × (r ≡ among replies.Scalar x) × Comes-to c x) × (n ≡ m)
 Obeyed m (commands.Kind c) line r n = (r ≡ among replies.Kind (kinds-asked m c)) × (n ≡ m)
 Obeyed m (commands.Rule c) line r n = (x : Result RuleReply Fault) × (r ≡ among replies.Rule x) × Rule-step m c line x n
+Obeyed m commands.Gate line r n = ((x : Result GateReply Fault) × (r ≡ among replies.Gate x) × Says x) × (n ≡ m)
 
 abbrev pub some-reply : Result Reply Fault → Result (Option Reply) Fault
 some-reply (Ok r) = Ok (Some r)

@@ -10,6 +10,8 @@ use crate::scalar_commands;
 use crate::scalar_commands::ScalarCommand;
 use crate::scalar_commands::ScalarReply;
 use crate::scalar_commands::ScalarReplyDisplay;
+use script_gates::GateReply;
+use script_gates::GateReplyDisplay;
 use script_kinds::KindCommand;
 use script_kinds::KindReply;
 use script_kinds::KindReplyDisplay;
@@ -28,6 +30,8 @@ pub enum Command {
     Scalar(ScalarCommand),
     Kind(KindCommand),
     Rule(RuleCommand),
+    // it stands in the line
+    Gate,
 }
 
 #[derive(Clone, Copy)]
@@ -36,6 +40,7 @@ pub enum Reply {
     Scalar(ScalarReply),
     Kind(KindReply),
     Rule(RuleReply),
+    Gate(GateReply),
 }
 
 // What a command is about, by its first word.
@@ -45,6 +50,7 @@ pub enum Topic {
     Scalar,
     Kind,
     Rule,
+    Gate,
 }
 
 fn read_topic(word: &[u8]) -> Option<Topic>
@@ -58,6 +64,8 @@ fn read_topic(word: &[u8]) -> Option<Topic>
         Some(Topic::Kind)
     } else if is(word, "rule") {
         Some(Topic::Rule)
+    } else if is(word, "gate") {
+        Some(Topic::Gate)
     } else {
         None
     }
@@ -71,6 +79,7 @@ fn read_about(topic: Topic, words: &mut Words) -> Result<Command, Fault>
         Topic::Scalar => Ok(Command::Scalar(scalar_commands::read(words)?)),
         Topic::Kind => Ok(Command::Kind(script_kinds::read(words)?)),
         Topic::Rule => Ok(Command::Rule(script_rules::read(words)?)),
+        Topic::Gate => Ok(Command::Gate),
     }
 }
 
@@ -100,6 +109,7 @@ pub impl fmt::Display for Reply as ReplyDisplay {
             Reply::Scalar(reply) => write!(f, "{reply}"),
             Reply::Kind(reply) => write!(f, "{reply}"),
             Reply::Rule(reply) => write!(f, "{reply}"),
+            Reply::Gate(reply) => write!(f, "{reply}"),
         }
     }
 }

@@ -160,6 +160,7 @@ impl Session {
             Command::Scalar(command) => Ok(Reply::Scalar(scalar_commands::obey(command)?)),
             Command::Kind(command) => Ok(Reply::Kind(self.ask_kinds(command)?)),
             Command::Rule(command) => Ok(Reply::Rule(self.obey_rule(command, line)?)),
+            Command::Gate => Ok(Reply::Gate(script_gates::answer_gate(line)?)),
         }
     }
 

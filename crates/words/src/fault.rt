@@ -11,10 +11,9 @@ pub enum Expected {
     Kind,
     // the name of an operation on scalars
     Operation,
-    // what is done with leaf kinds, with rules, with rings, with gates
+    // what is done with leaf kinds, with rules, with gates
     KindVerb,
     RuleVerb,
-    RingVerb,
     GateVerb,
     // digits that stand for a number below 2^32
     Number,
@@ -22,8 +21,6 @@ pub enum Expected {
     Byte,
     // a number or `-`
     NumberOrDash,
-    // pairs of hexadecimal digits
-    Hex,
     // no word at all
     End,
     // a number below the order q
@@ -36,8 +33,6 @@ pub enum Expected {
     Wanted,
     // this word, or one after it, `-`
     Dash,
-    // no more bytes than a ring has room for
-    Room,
     // with the word after it an element of the group of this kind
     Element(Kind),
     // the kind of a group that was made
@@ -58,17 +53,17 @@ impl Expected {
     // What a word should be, where one text says it.
     fn phrase(self) -> Option<&'static str> {
         match self {
-            Expected::Command => Some("group, element, multiply, power, scalar, kind or rule"),
+            Expected::Command => Some(
+                "group, element, multiply, power, scalar, kind, rule or gate",
+            ),
             Expected::Kind => Some("residue or circle"),
             Expected::Operation => Some("add, multiply or divide"),
             Expected::KindVerb => Some("set, test, multiply, neutral, key or power"),
             Expected::RuleVerb => Some("read or write"),
-            Expected::RingVerb => Some("clear, line, hex, read or pair"),
             Expected::GateVerb => Some("split, complete or check"),
             Expected::Number => Some("a number from 0 to 4294967295"),
             Expected::Byte => Some("a number from 0 to 255"),
             Expected::NumberOrDash => Some("a number from 0 to 4294967295, or -"),
-            Expected::Hex => Some("pairs of hexadecimal digits"),
             Expected::Scalar => Some("a scalar below q"),
             Expected::Divisor => Some("a divisor other than 0"),
             Expected::Children => Some("a number of children from 1 to 8"),
@@ -101,10 +96,6 @@ pub impl fmt::Display for Fault as FaultDisplay {
             ),
             Expected::AfterRule => write!(f, "expected word {place} to come after a rule was read"),
             Expected::Dash => write!(f, "expected word {place} or one after it to be -"),
-            Expected::Room => write!(
-                f,
-                "expected word {place} to leave the ring at most 288 bytes"
-            ),
             _ => write!(f, "expected no word {place}"),
         }
     }
