@@ -1,6 +1,6 @@
-// A session: the groups that a script made last.
+// A session: the groups and the rule that a script made last.
 ghost use mathlib.Core.Path.{_≡_};
-ghost use Rattle.script.specs.Sessions.{model, fresh, «with-residue», «with-circle», asked, «group-step», Obeyed, Answers};
+ghost use Rattle.script.specs.Sessions.{model, fresh, «with-residue», «with-circle», asked, «group-step», «kinds-asked», «Rule-read», «Rule-written», «Rule-step», Obeyed, Answers};
 use crate::command;
 use crate::command::Command;
 use crate::command::Reply;
@@ -16,6 +16,11 @@ use groups::Residue;
 use groups::ResidueGroup;
 use groups::ResidueGroupGroup;
 use groups::ResidueGroupMonoid;
+use rules::Table;
+use script_kinds::KindCommand;
+use script_kinds::KindReply;
+use script_rules::RuleCommand;
+use script_rules::RuleReply;
 use words::Expected;
 use words::Fault;
 use words::Kind;
@@ -24,6 +29,7 @@ use words::Kind;
 pub struct Session {
     residue: Option<ResidueGroup>,
     circle: Option<CircleGroup>,
+    rule: Option<Table>,
 }
 
 impl Session {
@@ -33,6 +39,7 @@ impl Session {
         Session {
             residue: None,
             circle: None,
+            rule: None,
         }
     }
 
@@ -92,13 +99,68 @@ impl Session {
         }
     }
 
-    // Obeys a command.
-    pub fn obey(&mut self, command: Command) -> Result<Reply, Fault>
-        ensures { λ r. ⌜ Obeyed (model (now (self .entry))) command r (model (now (self .exit))) ⌝ }
+    // Asks the supplied set over the two groups that were made last.
+    fn ask_kinds(&self, command: KindCommand) -> Result<KindReply, Fault>
+        ensures { λ r. ⌜ r ≡ «kinds-asked» (model (now (self .entry))) command ⌝ }
+    {
+        match self.residue {
+            Some(residues) => match self.circle {
+                Some(circle) => Ok(script_kinds::obey(residues, circle, command)),
+                None => Err(Fault {
+                    place: 1,
+                    expected: Expected::AfterGroup(Kind::Circle),
+                }),
+            },
+            None => Err(Fault {
+                place: 1,
+                expected: Expected::AfterGroup(Kind::Residue),
+            }),
+        }
+    }
+
+    // Reads a rule; one that is faulty leaves the rule that was read before.
+    fn read_rule(&mut self, text: &[u8]) -> RuleReply
+        ensures { λ r. ⌜ «Rule-read» (model (now (self .entry))) (now (text .entry)) r (model (now (self .exit))) ⌝ }
+    {
+        let reply = script_rules::read_rule(text);
+        if let RuleReply::Tree(table) = reply {
+            self.rule = Some(table);
+        }
+        reply
+    }
+
+    // Writes the rule that was read last.
+    fn write_rule(&self) -> Result<RuleReply, Fault>
+        ensures { λ r. ⌜ «Rule-written» (model (now (self .entry)) .rule-rows) r ⌝ }
+    {
+        match self.rule {
+            Some(table) => Ok(script_rules::write_rule(&table)),
+            None => Err(Fault {
+                place: 1,
+                expected: Expected::AfterRule,
+            }),
+        }
+    }
+
+    fn obey_rule(&mut self, command: RuleCommand, line: &[u8]) -> Result<RuleReply, Fault>
+        ensures { λ r. ⌜ «Rule-step» (model (now (self .entry))) command (now (line .entry)) r (model (now (self .exit))) ⌝ }
+    {
+        match command {
+            RuleCommand::Read => Ok(self.read_rule(script_rules::rule_text(line))),
+            RuleCommand::Write => self.write_rule(),
+        }
+    }
+
+    // Obeys the command of a line.
+    pub fn obey(&mut self, command: Command, line: &[u8]) -> Result<Reply, Fault>
+        ensures { λ r. ⌜ Obeyed (model (now (self .entry))) command (now (line .entry)) r (model (now (self .exit))) ⌝ }
     {
         match command {
             Command::Group(command) => Ok(Reply::Group(self.obey_group(command)?)),
             Command::Scalar(command) => Ok(Reply::Scalar(scalar_commands::obey(command)?)),
+            Command::Kind(command) => Ok(Reply::Kind(self.ask_kinds(command)?)),
+            Command::Rule(command) => Ok(Reply::Rule(self.obey_rule(command, line)?)),
+            Command::Gate => Ok(Reply::Gate(script_gates::answer_gate(line)?)),
         }
     }
 
@@ -107,7 +169,7 @@ impl Session {
         ensures { λ r. ⌜ Answers (model (now (self .entry))) (now (line .entry)) r (model (now (self .exit))) ⌝ }
     {
         match command::read(line)? {
-            Some(command) => Ok(Some(self.obey(command)?)),
+            Some(command) => Ok(Some(self.obey(command, line)?)),
             None => Ok(None),
         }
     }

@@ -7,6 +7,9 @@
 --   digits w         w has only decimal digits
 --   decimal n w      the number that the digits w stand for after the digits of n
 --   number w         the number that the word w stands for: digits, at least one, and below 2^32
+--   small n          n where it is below 256
+--   ink-end i n bs   where the last byte that is no blank ends; bs begins at i, and what is before it ends at n
+--   trimmed bs       bs without the blanks after its last other byte
 use mathlib.Core.Bool.{Bool, true, false, cond, not, _&&_, _||_}
 use mathlib.Core.List.{List, [], _∷_}
 use Prim.Native.Nat.{ℕ, suc, _+_, _-_, _*_}
@@ -64,3 +67,14 @@ continued n w = cond (digits w && ltb (decimal n w) 4294967296) (Some (decimal n
 abbrev pub number : List ℕ → Option ℕ
 number [] = None
 number (b ∷ bs) = continued 0 (b ∷ bs)
+
+abbrev pub small : Option ℕ → Option ℕ
+small None = None
+small (Some n) = cond (ltb n 256) (Some n) None
+
+abbrev pub ink-end : ℕ → ℕ → List ℕ → ℕ
+ink-end i n [] = n
+ink-end i n (b ∷ bs) = ink-end (i + 1) (cond (is-blank b) n (i + 1)) bs
+
+abbrev pub trimmed : List ℕ → List ℕ
+trimmed bs = take (ink-end 0 0 bs) bs

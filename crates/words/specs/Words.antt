@@ -4,6 +4,8 @@
 --   after-word bs          what is left of bs after it
 --   following place        the place after; 2^32 - 1 stands for all that come later
 --   number-at place bs     the first word as a number
+--   byte-at place bs       the first word as a number below 256
+--   text-of bs             bs without the blanks before and after it
 --   end-at place bs        that bs has no word
 --   numbers-at n place bs  the words of bs as n numbers
 --   at ns i                the number i of these, counted from 0
@@ -21,8 +23,8 @@ use Rattle.std.specs.Options.{okOr}
 use Rattle.words.specs.declared.bytes.Class.the-variants.{Blank, Word}
 use Rattle.words.specs.declared.fault.Fault.{Fault}
 use Rattle.words.specs.declared.fault.Expected.{Expected}
-use Rattle.words.specs.declared.fault.Expected.the-variants.{Number, End}
-use Rattle.words.specs.Bytes.{front, past, number}
+use Rattle.words.specs.declared.fault.Expected.the-variants.{Number, Byte, End}
+use Rattle.words.specs.Bytes.{front, past, number, small, trimmed}
 
 abbrev pub fault : ℕ → Expected → Fault
 fault n what = record { place = n; expected = what }
@@ -38,6 +40,12 @@ following n = min (n + 1) 4294967295
 
 abbrev pub number-at : ℕ → List ℕ → Result ℕ Fault
 number-at n bs = okOr (number (word-of bs)) (fault n Number)
+
+abbrev pub byte-at : ℕ → List ℕ → Result ℕ Fault
+byte-at n bs = okOr (small (number (word-of bs))) (fault n Byte)
+
+abbrev pub text-of : List ℕ → List ℕ
+text-of bs = trimmed (past Blank bs)
 
 abbrev pub end-at : ℕ → List ℕ → Result (Unit {0}) Fault
 end-at n bs = cond (eqb (length (past Blank bs)) 0) (Ok tt) (Err (fault n End))

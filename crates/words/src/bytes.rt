@@ -1,9 +1,10 @@
 // Bytes, words and decimal numbers of a line.
 ghost use mathlib.Core.Path.{_≡_};
+ghost use mathlib.Core.Bool.{cond};
 ghost use mathlib.Core.List.{_∷_, []};
 ghost use Prim.Native.Nat.{_≤_};
 ghost use lib.ListN.{length};
-ghost use Rattle.words.specs.Bytes.{«in-class», leading, front, past, same, continued, number as stands};
+ghost use Rattle.words.specs.Bytes.{«in-class», leading, front, past, same, continued, number as stands, small, «is-blank» as blank, «ink-end», trimmed as inked};
 
 // Bytes that belong together.
 #[derive(Clone, Copy)]
@@ -87,4 +88,38 @@ pub fn number(word: &[u8]) -> Option<u32>
         value = appended(value, *byte)?;
     }
     Some(value)
+}
+
+// The number below 256 that a word stands for.
+pub fn byte(word: &[u8]) -> Option<u8>
+    ensures { λ r. ⌜ r ≡ small (stands (now (word .entry))) ⌝ }
+{
+    let value = number(word)?;
+    if value < 256 { Some(value as u8) } else { None }
+}
+
+// Where the last byte that is no blank ends, once one byte more, which ends here, is looked at.
+fn ink_with(before: usize, here: usize, byte: u8) -> usize
+    ensures { λ r. ⌜ r ≡ cond (blank byte) before here ⌝ }
+{
+    if is_blank(byte) { before } else { here }
+}
+
+fn ink(text: &[u8]) -> usize
+    ensures value { λ r. ⌜ r ≡ «ink-end» 0 0 (now (text .entry)) ⌝ }
+    ensures bound { λ r. ⌜ r ≤ length (now (text .entry)) ⌝ }
+{
+    let mut end = 0;
+    for i in 0..text.len() {
+        end = ink_with(end, i + 1, text[i]);
+    }
+    end
+}
+
+// A text without the blanks after it.
+pub fn trimmed(text: &[u8]) -> &[u8]
+    ensures { λ r. ⌜ now r ≡ inked (now (text .entry)) ⌝ }
+{
+    let (text, _blanks) = text.split_at(ink(text));
+    text
 }

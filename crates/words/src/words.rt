@@ -1,11 +1,13 @@
 // The words of a line, read one after another from its front.
 ghost use mathlib.Core.Path.{_≡_};
 ghost use Rattle.words.specs.Bytes.{front, past};
-ghost use Rattle.words.specs.Words.{«word-of», «after-word», following, «number-at», «end-at», «numbers-at»};
+ghost use Rattle.words.specs.Words.{«word-of», «after-word», following, «number-at», «byte-at», «text-of», «end-at», «numbers-at»};
 ghost use Rattle.words.specs.declared.bytes.Class.the-variants.{Code};
 use crate::bytes::Class;
+use crate::bytes::byte;
 use crate::bytes::number;
 use crate::bytes::split;
+use crate::bytes::trimmed;
 use crate::fault::Expected;
 use crate::fault::Fault;
 
@@ -58,6 +60,27 @@ impl<'a> Words<'a> {
             place,
             expected: Expected::Number,
         })
+    }
+
+    // The next word as a number below 256.
+    pub fn byte(&mut self) -> Result<u8, Fault>
+        ensures value { λ r. ⌜ r ≡ «byte-at» (now (self .entry) .place) (now (self .entry) .rest .now) ⌝ }
+        ensures after { λ _. ⌜ now (self .exit) .rest .now ≡ «after-word» (now (self .entry) .rest .now) ⌝ }
+        ensures counted { λ _. ⌜ now (self .exit) .place ≡ following (now (self .entry) .place) ⌝ }
+    {
+        let place = self.place;
+        byte(self.word()).ok_or(Fault {
+            place,
+            expected: Expected::Byte,
+        })
+    }
+
+    // What is left of the line, without the blanks before and after it.
+    pub fn text(&self) -> &'a [u8]
+        ensures { λ r. ⌜ now r ≡ «text-of» (now (self .entry) .rest .now) ⌝ }
+    {
+        let (_blanks, rest) = split(Class::Blank, self.rest);
+        trimmed(rest)
     }
 
     // That there is no word left.
