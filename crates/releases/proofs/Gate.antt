@@ -128,6 +128,27 @@ module _ {E : Type 0} {m : FieldModel E} (laws : FieldLaws m) where
       let o = split own known cs′ (sym l′) (omega arith) (own-in (missing known) own cs b) (child-in (missing known) own cs′ (omega arith) b′) in
       o .1 .3 cs (l ∙ sym l′) b (marked-agree m known cs cs′ (sym l) (sym l′) e) ∙ sym (o .1 .3 cs′ refl b′ (λ j h t. refl))
 
+  same-list? : (xs ys : List E) → Dec (xs ≡ ys)
+  same-list? [] [] = yes refl
+  same-list? [] (y ∷ ys) = no (λ e. let l : _≡_ {A = ℕ} 0 (suc (length ys)) = ap length e in omega arith)
+  same-list? (x ∷ xs) [] = no (λ e. let l : _≡_ {A = ℕ} (suc (length xs)) 0 = ap length e in omega arith)
+  same-list? (x ∷ xs) (y ∷ ys) = go (laws .same? x y) (same-list? xs ys)
+    where
+      go : Dec (x ≡ y) → Dec (xs ≡ ys) → Dec (x ∷ xs ≡ y ∷ ys)
+      go (yes e) (yes f) = yes (ap₂ _∷_ e f)
+      go (no n) f = no (λ e. n (ap (λ u. getD u 0 x) e))
+      go (yes e) (no n) = no (λ f. n (ap (drop 1) f))
+
+  -- whether a gate balances: it does where it is the one split that has its marked children
+  pub balanced? : (own : E) (known : List Bool) (cs : List E) → length known ≡ length cs → length cs ≤ 8 → In own → Members m cs → Dec (Balanced m (missing known) own cs)
+  balanced? own known cs long few own′ cs′ =
+      let o = split own known cs long few own′ cs′ in
+      go (o .0) (o .1 .1) (λ b. o .1 .3 cs refl b (λ j h t. refl)) (same-list? cs (o .0))
+    where
+      go : (after : List E) → Balanced m (missing known) own after → (Balanced m (missing known) own cs → cs ≡ after) → Dec (cs ≡ after) → Dec (Balanced m (missing known) own cs)
+      go after b one (yes e) = yes (subst (Balanced m (missing known) own) (sym e) b)
+      go after b one (no n) = no (λ c. n (one c))
+
   -- whatever marks each child that differs marks at least as many as differ
   differ : (ch ch′ : ℕ → E) (f : ℕ → Bool) (cs : List ℕ) → ((j : ℕ) → j < length cs → ¬ (ch (getD cs j 0) ≡ ch′ (getD cs j 0)) → T (f (getD cs j 0)))
       → (r : ℕ) × Differing (map ch cs) (map ch′ cs) r × (r ≤ count f cs)
