@@ -47,7 +47,7 @@ module _ (m : KindModel) (rule : List Entry) where
   accepted-alike : (ws : List ℕ) (next : Option Refusal → Type 0) → Alike next → Alike (Accepted m rule ws next)
   accepted-alike ws next h = test-alike _ _ _ (each-alike _ _ _ _ (each-alike _ _ _ _ (each-alike _ _ _ _ h)))
 
-  slotted-alike : (b : Bench) (slot : ℕ) (next : Option Refusal → Type 0) → Alike next → Alike (Slotted m rule b slot next)
+  slotted-alike : (b : Bench) (slot : ℕ) (next : Option Refusal → Type 0) → Alike next → Alike (Slotted b slot next)
   slotted-alike b slot next h = test-alike _ _ _ (test-alike _ _ _ h)
 
   refuses-alike : (b : Bench) (c : Call) → Alike (Refuses m rule b c)
@@ -86,7 +86,7 @@ module _ (m : KindModel) (rule : List Entry) (st : Setting m rule) where
       (each-tells _ _ _ _ (λ i _. gate? m rule (λ i k cs. Balanced (scalars-model (m .q)) k (challenge (parsed rule ws) i) (map (challenge (parsed rule ws)) cs)) i (λ k cs g. gate-balanced? m rule st (parsed rule ws) i k cs g))
       (each-tells _ _ _ _ (λ i _. leaf? m rule (Equation ws) i (λ kind s. image? _ _)) h)))
 
-  slotted-tells : (b : Bench) (slot : ℕ) (next : Option Refusal → Type 0) → Tells next → Tells (Slotted m rule b slot next)
+  slotted-tells : (b : Bench) (slot : ℕ) (next : Option Refusal → Type 0) → Tells next → Tells (Slotted b slot next)
   slotted-tells b slot next h = test-tells _ _ _ (slot? slot) (test-tells _ _ _ (filled? (slot-at b slot)) h)
 
   refuses-tells : (b : Bench) (c : Call) → Tells (Refuses m rule b c)
@@ -177,11 +177,11 @@ module _ (m : KindModel) (rule : List Entry) (st : Setting m rule) where
             let k = obeyed-once c e in
             (k .0, (None, e, k .1), λ p x. k .2 p (subst (Outcome m rule b c (p .0) (p .1)) (refuses-alike m rule b c (x .0) None (x .1) e) (x .2)))
         go (Some why) e = (
-          (refused why, after-refusal m rule b c),
+          (refused why, after-refusal b c),
           (Some why, e, (refl, refl)),
           λ p x.
               let y = subst (Outcome m rule b c (p .0) (p .1)) (refuses-alike m rule b c (x .0) (Some why) (x .1) e) (x .2) in
-              pair p (refused why) (after-refusal m rule b c) (y .0) (y .1),
+              pair p (refused why) (after-refusal b c) (y .0) (y .1),
         )
 
 pub replies-once : Replies-once
