@@ -1,6 +1,6 @@
 -- Primes.
 --   Prime n    n is at least 2, and no number between 1 and n divides it
---   In-range q q is from 11 to 2,147,483,647: the orders that are served
+--   in-range q q is from 11 to 2,147,483,647: the orders that are served
 use mathlib.Core.Path.{_≡_}
 use mathlib.Core.Bool.{Bool, _&&_}
 use Prim.Native.Nat.{ℕ, _%_, _<_, _≤_}

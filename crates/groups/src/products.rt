@@ -1,12 +1,35 @@
 // Products of residues, and of pairs of residues.
 ghost use mathlib.Core.Path.{_≡_};
 ghost use Prim.Native.Nat.{_+_, _-_, _*_, _%_, _<_, _≤_};
+ghost use Rattle.std.specs.Options.{Cases};
 ghost use Rattle.groups.specs.Residues.{«residues-modulo»};
 ghost use Rattle.groups.specs.Circles.{«circle-modulo»};
 use crate::modulus::Circle;
 use crate::modulus::Residues;
 use crate::monoid::Monoid;
 use crate::residue::Residue;
+
+impl Residues {
+    // The numbers below p; none where p is below 2.
+    pub fn new(p: u32) -> Option<Residues>
+        ensures { λ r. ⌜ Cases r (p ≤ 1) (λ s. s .p ≡ p) ⌝ }
+    {
+        if p > 1 { Some(Residues { p }) } else { None }
+    }
+}
+
+impl Circle {
+    // The pairs of numbers below p; none where p is not from 2 to 2,147,483,647.
+    pub fn new(p: u32) -> Option<Circle>
+        ensures { λ r. ⌜ Cases r ((1 < p → p ≤ 2147483647 → ⊥)) (λ s. s .p ≡ p) ⌝ }
+    {
+        if p > 1 && p <= 2147483647 {
+            Some(Circle { p })
+        } else {
+            None
+        }
+    }
+}
 
 pub impl Monoid for Residues as ResiduesMonoid {
     type Index = ();

@@ -3,3 +3,4 @@ pub mod Keys
 pub mod CodedLaws
 pub mod GroupLaws
 pub mod JoinLaws
+pub mod NumberedJoins

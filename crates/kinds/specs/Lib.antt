@@ -2,3 +2,4 @@ pub mod Kinds
 pub mod Coded
 pub mod GroupKinds
 pub mod Joins
+pub mod Numbered

@@ -4,7 +4,7 @@ use mathlib.Core.List.{List, [], _∷_, _++_}
 use Prim.Native.Nat.{ℕ, zero, suc, _≤_, _<_, zero-le, suc-le-suc}
 use native.Mathlib.Nat.{suc-inj, not-suc-le-zero, le-of-suc-le-suc}
 use native.Mathlib.Omega.{arith}
-use lib.Dec.{T, T-prop}
+use lib.Dec.{T}
 use lib.ListN.{length, getD}
 use Rattle.fields.specs.Fields.{FieldModel, FieldLaws, minus}
 use Rattle.polynomials.specs.Polynomials.{value, Members, Apart, Vanishes, Polynomial, newton, weight}

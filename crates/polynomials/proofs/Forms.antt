@@ -1,15 +1,15 @@
 -- Over a total field: Newton's form, its coefficients as a plain polynomial, and one node more.
---   form K ns cs x     c0 + (x - n0)(c1 + (x - n1)(c2 + ..))
---   factors K ns x     (x - n0)(x - n1)(x - n2)..
-use mathlib.Core.Path.{_≡_, refl, sym, ap, ap₂, _∙_}
+--   form K ns cs x     c0 + (x - a0)(c1 + (x - a1)(c2 + ..))
+--   factors K ns x     (x - a0)(x - a1)(x - a2)..
+use mathlib.Core.Path.{_≡_, refl, ap, _∙_}
 use mathlib.Core.List.{List, [], _∷_, _++_}
 use Prim.Native.Nat.{ℕ, zero, suc, _<_}
 use native.Mathlib.Nat.{not-suc-le-zero, le-of-suc-le-suc}
 use native.Mathlib.Omega.{arith}
 use lib.ListN.{length, getD}
 use Rattle.polynomials.proofs.Total.{TotalField}
-use Rattle.polynomials.proofs.Ring.{Expression, ring, combine, times-nought}
-use Rattle.polynomials.proofs.Ring.{var, 𝟘, 𝟙, _⊕_, _⊗_, ⊝_, _⊖_}
+use Rattle.polynomials.proofs.Ring.{ring, times-nought}
+use Rattle.polynomials.proofs.Ring.{var, 𝟘, 𝟙, _⊕_, _⊗_, _⊖_}
 use Rattle.polynomials.proofs.Roots.{eval, All, difference-apart, no-divisor}
 
 abbrev pub form : (K : TotalField) → List (K .car) → List (K .car) → K .car → K .car

@@ -9,7 +9,7 @@ use native.Mathlib.Nat.{not-suc-le-zero, le-of-suc-le-suc}
 use native.Mathlib.Omega.{arith}
 use lib.ListN.{length}
 use Rattle.polynomials.proofs.Total.{TotalField}
-use Rattle.polynomials.proofs.Ring.{Expression, ring, combine, nought-plus, times-nought}
+use Rattle.polynomials.proofs.Ring.{ring, combine, nought-plus, times-nought}
 use Rattle.polynomials.proofs.Ring.{var, 𝟘, 𝟙, _⊕_, _⊗_, ⊝_, _⊖_}
 
 abbrev pub eval : (K : TotalField) → List (K .car) → K .car → K .car

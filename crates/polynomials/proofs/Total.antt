@@ -2,7 +2,7 @@
 --   TotalField      operations on a whole type, with the laws of a commutative field
 --   Element m       the values of a field that are elements of it
 --   elements laws   the elements of a lawful field, as a TotalField
-use mathlib.Core.Path.{_≡_, ap}
+use mathlib.Core.Path.{_≡_}
 use mathlib.Core.HLevel.{isProp→PathP}
 use lib.Dec.{T, T-prop}
 use Rattle.fields.specs.Fields.{FieldModel, FieldLaws}

@@ -5,8 +5,8 @@
 --   Passes m f xs ys      f has the values ys at the points xs
 --   Vanishes m f xs       f is zero at the points xs
 --   Polynomial m n f      f is the value of a polynomial with n coefficients
---   newton m ns cs x      the value at x in Newton's form on the nodes ns: c0 + (x - n0)(c1 + (x - n1)(c2 + ..))
---   weight m ns x         (x - n0)(x - n1)(x - n2)..
+--   newton m ns cs x      the value at x in Newton's form on the nodes ns, a0, a1 and so on: c0 + (x - a0)(c1 + (x - a1)(c2 + ..))
+--   weight m ns x         (x - a0)(x - a1)(x - a2)..
 use mathlib.Core.Path.{_≡_}
 use mathlib.Core.List.{List, [], _∷_}
 use Prim.Native.Nat.{ℕ, _<_}

@@ -1,4 +1,4 @@
-// Polynomials in Newton's form: c0 + (x - n0)(c1 + (x - n1)(c2 + ..)), with the nodes n and the coefficients c.
+// Polynomials in Newton's form: c0 + (x - a0)(c1 + (x - a1)(c2 + ..)), with the nodes a and the coefficients c.
 ghost use mathlib.Core.Path.{_≡_};
 ghost use mathlib.Core.List.{List};
 ghost use Prim.Native.Nat.{ℕ, _<_, _≤_};

@@ -9,7 +9,7 @@ use native.Mathlib.Omega.{arith}
 use native.Mathlib.Decide.{decLe}
 use lib.Dec.{T}
 use lib.ListN.{length, getD, drop}
-use Rattle.std.proofs.shelf.Lists.{getD-read, drop-more, drop-all}
+use Rattle.std.proofs.shelf.Lists.{drop-more, drop-all}
 use Rattle.fields.specs.Fields.{FieldModel, FieldLaws}
 use Rattle.polynomials.specs.Polynomials.{value, Members, Polynomial}
 use Rattle.polynomials.proofs.Roots.{All, Distinct}

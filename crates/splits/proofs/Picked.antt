@@ -1,9 +1,9 @@
 -- Marked entries of a list, and the points of the children.
-use mathlib.Core.Path.{_≡_, refl, sym, ap, ap₂, _∙_, subst}
+use mathlib.Core.Path.{_≡_, refl, sym, ap, _∙_, subst}
 use mathlib.Core.Bool.{Bool, true, false, cond}
 use mathlib.Core.List.{List, [], _∷_, _++_, append-assoc}
 use Prim.Native.Nat.{ℕ, zero, suc, _+_, _≤_, _<_, zero-le, suc-le-suc}
-use native.Mathlib.Nat.{suc-inj, not-suc-le-zero, le-of-suc-le-suc, add-zero, add-suc, suc-add}
+use native.Mathlib.Nat.{suc-inj, not-suc-le-zero, le-of-suc-le-suc}
 use native.Mathlib.Numerals.{add-one}
 use native.Mathlib.Omega.{arith}
 use native.Mathlib.Decide.{ℕ-discrete, decLt}
@@ -13,7 +13,7 @@ use lib.Seq.{getD-set-same, getD-set-other}
 use Rattle.std.proofs.shelf.Lists.{append-nil, take-more-set, getD-take, getD-past, length-take-le}
 use Rattle.fields.specs.Fields.{FieldModel, FieldLaws}
 use Rattle.polynomials.specs.Polynomials.{Members, Apart, Passes}
-use Rattle.polynomials.proofs.Roots.{All, Away, Distinct}
+use Rattle.polynomials.proofs.Roots.{All, Distinct}
 use Rattle.splits.specs.Marks.{missing, marked, First, points-from}
 
 pub length-marked : {A : Type 0} (bs : List Bool) (xs : List A) → length bs ≡ length xs → length (marked bs xs) + missing bs ≡ length bs

@@ -1,19 +1,18 @@
 -- A gate of which some children are known: there is one balanced gate with these, and it is what the polynomial through them gives.
 --   nodes, values   the points of the gate and of its known children, and the challenges there
---   Solved          cs are the coefficients of the one polynomial through these, and `after` has the known children and its values at the others
+--   Solved          cs are the coefficients of a polynomial through these, and `after` has the known children and its values at the others
 use mathlib.Core.Path.{_≡_, refl, sym, ap, ap₂, _∙_, subst}
 use mathlib.Core.Bool.{Bool, true, false, cond}
 use mathlib.Core.List.{List, [], _∷_, _++_}
 use Prim.Native.Nat.{ℕ, zero, suc, _+_, _-_, _≤_, _<_, zero-le, suc-le-suc}
-use native.Mathlib.Nat.{suc-inj, not-suc-le-zero, le-of-suc-le-suc}
+use native.Mathlib.Nat.{le-of-suc-le-suc}
 use native.Mathlib.Omega.{arith}
 use lib.Dec.{T}
 use lib.ListN.{length, getD, take, set}
 use Rattle.std.proofs.shelf.Lists.{ext-getD}
 use Rattle.fields.specs.Fields.{FieldModel, FieldLaws}
 use Rattle.polynomials.specs.Polynomials.{value, Members, Apart, Passes, Polynomial, newton}
-use Rattle.polynomials.proofs.Roots.{All, Distinct}
-use Rattle.polynomials.proofs.Carried.{value-in}
+use Rattle.polynomials.proofs.Carried.{value-in, agree-everywhere}
 use Rattle.splits.specs.Gates.{Balanced, Agree}
 use Rattle.splits.specs.Marks.{missing, marked, points-from}
 use Rattle.splits.proofs.Picked.{front-set, length-marked, all-marked, distinct-marked, all-from, apart-from, members-from, passes-at, passes-from, length-points, getD-points, all-points, distinct-points}
@@ -29,7 +28,6 @@ module _ {E : Type 0} (m : FieldModel E) (own : E) (known : List Bool) (given : 
   Solved ns vs cs after =
       Polynomial m (length ns) (newton m ns cs)
       × Passes m (newton m ns cs) ns vs
-      × ((f : E → E) → Polynomial m (length ns) f → Passes m f ns vs → (x : E) → T (m .member x) → f x ≡ newton m ns cs x)
       × ((j : ℕ) → j < length given → getD after j (m .zero)
       ≡ cond (getD known j false) (getD given j (m .zero)) (newton m ns cs (getD (points-from m 1 (length given)) j (m .zero))))
 
@@ -72,6 +70,27 @@ module _ {E : Type 0} {m : FieldModel E} (laws : FieldLaws m) (own : E) (known :
   point-is : (j : ℕ) → j < length given → getD (points-from m 1 (length given)) j (m .zero) ≡ m .point (j + 1)
   point-is j l = getD-points m 1 (length given) j (m .zero) l
 
+  -- what holds of every balanced gate that agrees with what is given: its polynomial passes through the nodes
+  balanced-passes : (others : List E) → length others ≡ length given → (b : Balanced m (missing known) own others) → Agree m known others given
+      → Passes m (value m (b .0)) (nodes m own known given) (values m own known given)
+  balanced-passes others l b agree zero h = b .3
+  balanced-passes others l b agree (suc i) h =
+      passes-from m (value m (b .0)) known (points-from m 1 (length given)) given points-long long
+      (λ j a t. ap (value m (b .0)) (point-is j (omega arith)) ∙ b .4 j (omega arith) ∙ agree j a t) i (le-of-suc-le-suc h)
+
+  -- the own challenge and the known children's determine a balanced gate
+  pub determined : (xs ys : List E) → length xs ≡ length given → length ys ≡ length given → Balanced m (missing known) own xs → Balanced m (missing known) own ys
+      → Agree m known xs given → Agree m known ys given → xs ≡ ys
+  determined xs ys l k b c agree agree′ =
+      let n = length given - missing known + 1 in
+      let same : (x : E) → T (m .member x) → value m (b .0) x ≡ value m (c .0) x =
+      agree-everywhere laws n (value m (b .0)) (value m (c .0))
+      (b .0, b .1 ∙ ap (λ n. n - missing known + 1) l, b .2, λ x h. refl) (c .0, c .1 ∙ ap (λ n. n - missing known + 1) k, c .2, λ x h. refl)
+      (nodes m own known given) nodes-in nodes-apart (omega (arith, nodes-long))
+      (λ i h. balanced-passes xs l b agree i h ∙ sym (balanced-passes ys k c agree′ i h)) in
+      ext-getD (m .zero) xs ys (l ∙ sym k)
+      (λ j h. sym (b .4 j h) ∙ same (m .point (j + 1)) (laws .point-in (j + 1) (omega arith)) ∙ c .4 j (omega arith))
+
   -- what the loops gather is the nodes and the values
   pub nodes-are : (room after points : List E) (count : ℕ) (p : E) → 0 < length room → p ≡ m .point 0 → points ≡ points-from m 1 (length given)
       → take count after ≡ take 1 (set room 0 p) ++ marked known points → take count after ≡ nodes m own known given
@@ -88,15 +107,13 @@ module _ {E : Type 0} {m : FieldModel E} (laws : FieldLaws m) (own : E) (known :
 
   pub solved-from : (ns vs cs ds points after : List E) → ns ≡ nodes m own known given → vs ≡ values m own known given → ds ≡ cs → points ≡ points-from m 1 (length given)
       → Polynomial m (length ns) (newton m ns cs) → Passes m (newton m ns cs) ns vs
-      → ((f : E → E) → Polynomial m (length ns) f → Passes m f ns vs → (x : E) → T (m .member x) → f x ≡ newton m ns cs x)
       → ((j : ℕ) → j < length given → getD after j (m .zero) ≡ cond (getD known j false) (getD given j (m .zero)) (newton m ns ds (getD points j (m .zero))))
       → Solved m own known given (nodes m own known given) (values m own known given) cs after
-  solved-from ns vs cs ds points after en ev ed ep polynomial passes only filled =
+  solved-from ns vs cs ds points after en ev ed ep polynomial passes filled =
       subst (λ u. Solved m own known given u (values m own known given) cs after) en
       (subst (λ u. Solved m own known given ns u cs after) ev (
         polynomial,
         passes,
-        only,
         λ j l. filled j l ∙ ap₂ (λ u v. cond (getD known j false) (getD given j (m .zero)) (newton m ns u (getD v j (m .zero)))) ed ep,
       ))
 
@@ -105,7 +122,7 @@ module _ {E : Type 0} {m : FieldModel E} (laws : FieldLaws m) (own : E) (known :
     pub child-is : (j : ℕ) → j < length given → newton m (nodes m own known given) cs (m .point (j + 1)) ≡ getD after j (m .zero)
     child-is j l =
         let form = newton m (nodes m own known given) cs in
-        let at : getD after j (m .zero) ≡ form (getD (points-from m 1 (length given)) j (m .zero)) = by-mark (getD known j false) (solved .3 j l)
+        let at : getD after j (m .zero) ≡ form (getD (points-from m 1 (length given)) j (m .zero)) = by-mark (getD known j false) (solved .2 j l)
         (passes-at m form known (points-from m 1 (length given)) given points-long long (λ i h. solved .1 (suc i) (suc-le-suc h)) j (omega arith)) in
         ap form (sym (point-is j l)) ∙ sym at
 
@@ -120,7 +137,7 @@ module _ {E : Type 0} {m : FieldModel E} (laws : FieldLaws m) (own : E) (known :
         )
 
     pub is-kept : Agree m known after given
-    is-kept j l t = marked-is (getD known j false) (getD given j (m .zero)) _ (getD after j (m .zero)) (solved .3 j (omega arith)) t
+    is-kept j l t = marked-is (getD known j false) (getD given j (m .zero)) _ (getD after j (m .zero)) (solved .2 j (omega arith)) t
 
     pub is-in : Members m after
     is-in j l =
@@ -130,15 +147,4 @@ module _ {E : Type 0} {m : FieldModel E} (laws : FieldLaws m) (own : E) (known :
         subst (λ y. T (m .member y)) (p .3 at at-in ∙ child-is j (omega arith)) (value-in laws (p .0) (p .2) at at-in)
 
     pub is-only : (others : List E) → length others ≡ length given → Balanced m (missing known) own others → Agree m known others given → others ≡ after
-    is-only others l b agree =
-        let ds = b .0 in
-        let same : (x : E) → T (m .member x) → value m ds x ≡ newton m (nodes m own known given) cs x =
-        solved .2 (value m ds) (ds, b .1 ∙ ap (λ n. n - missing known + 1) l ∙ sym nodes-long, b .2, λ x h. refl) through in
-        ext-getD (m .zero) others after (l ∙ sym after-long)
-        (λ j h. sym (b .4 j h) ∙ same (m .point (j + 1)) (laws .point-in (j + 1) (omega arith)) ∙ child-is j (omega arith))
-      where
-        through : Passes m (value m (b .0)) (nodes m own known given) (values m own known given)
-        through zero h = b .3
-        through (suc i) h =
-            passes-from m (value m (b .0)) known (points-from m 1 (length given)) given points-long long
-            (λ j a t. ap (value m (b .0)) (point-is j (omega arith)) ∙ b .4 j (omega arith) ∙ agree j a t) i (le-of-suc-le-suc h)
+    is-only others l b agree = determined others after l after-long b is-balanced agree is-kept

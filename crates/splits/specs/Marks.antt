@@ -3,7 +3,7 @@
 --   marked marks xs        the entries at the marked places, in their order
 --   First marks n          the first n places are marked, and no others
 --   points-from m j n      point j, point j + 1, ..: n of them
-use mathlib.Core.Bool.{Bool, true, false, cond}
+use mathlib.Core.Bool.{Bool, false, cond}
 use mathlib.Core.List.{List, [], _∷_}
 use Prim.Native.Nat.{ℕ, zero, suc, _<_}
 use lib.Dec.{T}

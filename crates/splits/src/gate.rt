@@ -69,7 +69,7 @@ fn split_in<F: Field>(
 }
 
 // Splits the own challenge of a gate: keeps the challenges of the known children and writes the others'. The gate wants as many children as are not known.
-// With n children of which d are known: d quotients, and at most d * n products besides.
+// With n children of which d are known: d quotients, and d * n products besides.
 pub fn split<F: Field>(field: &F, own: F::Element, known: &[bool], children: &mut [F::Element])
     requires sizes { ⌜ length (now known) ≡ length (now children) ⌝ ∗ ⌜ length (now children) ≤ 8 ⌝ }
     requires elements { let m = F·Field .model (now field) in ⌜ T (m .member own) ⌝ ∗ ⌜ Members m (now children) ⌝ }

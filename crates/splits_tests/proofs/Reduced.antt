@@ -1,6 +1,6 @@
 -- What is reduced modulo the order is a scalar.
 use mathlib.Core.Path.{_≡_, sym, ap, _∙_, subst}
-use Prim.Native.Nat.{ℕ, _%_, _<_, _≤_}
+use Prim.Native.Nat.{ℕ, _%_, _≤_}
 use native.Mathlib.Nat.{mod-lt}
 use lib.Dec.{T, ltb, lt→ltb}
 use native.Mathlib.Omega.{arith}

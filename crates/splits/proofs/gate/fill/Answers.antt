@@ -1,7 +1,6 @@
-use mathlib.Core.Path.{_≡_, sym, ap, _∙_, subst}
+use mathlib.Core.Path.{sym, ap, _∙_, subst}
 use Prim.Native.Nat.{_+_}
 use native.Mathlib.Omega.{arith}
-use lib.ListN.{length, getD}
 use Rattle.std.proofs.shelf.Lists.{getD-read}
 use Rattle.polynomials.specs.Polynomials.{newton}
 use Rattle.polynomials.proofs.Steps.{read-in}

@@ -1,13 +1,12 @@
 use mathlib.Core.Path.{_≡_, sym, ap, _∙_, subst}
-use Prim.Native.Nat.{_+_, _≤_, _<_}
+use Prim.Native.Nat.{_+_}
 use native.Mathlib.Omega.{arith}
 use mathlib.Core.List.{_++_}
 use lib.ListN.{length, take, drop, length-set}
 use Rattle.std.proofs.shelf.Lists.{length-take-le, take-at}
 use Rattle.polynomials.specs.Polynomials.{Members, Apart}
-use Rattle.splits.specs.Marks.{points-from}
 use Rattle.splits.proofs.Picked.{length-points, points-members}
-use Rattle.splits.proofs.Splitting.{nodes, values, nodes-in, values-in, nodes-apart, nodes-long, as-long, nodes-are, values-are, same-count, solved-from, is-balanced, is-kept, is-in, is-only}
+use Rattle.splits.proofs.Splitting.{nodes, values, nodes-in, values-in, nodes-apart, as-long, nodes-are, values-are, same-count, solved-from, is-balanced, is-kept, is-in, is-only}
 use Rattle.splits.proofs.gate.split_in.Needs as need
 
 pub pick-count-requires : need.pick-count-requires
@@ -85,7 +84,7 @@ returns g c =
     let after = c .fill .last .children in
     let after-long : length after ≡ length given = c .fill .kept .children in
     let solved = solved-from laws own known given long few (take count (c .pick-count .last .to)) (take count (c .pick .last .to)) cs (take count (cs ++ rest)) points after
-    ns-are vs-are cs-are (c .pre .points) (c .interpolate .ensures .polynomial) (c .interpolate .ensures .passes) (c .interpolate .ensures .only) (c .fill .ensures) in
+    ns-are vs-are cs-are (c .pre .points) (c .interpolate .ensures .polynomial) (c .interpolate .ensures .passes) (c .fill .ensures) in
     record {
       elements = is-in laws own known given long few cs after after-long solved;
       balanced = is-balanced laws own known given long few cs after after-long solved;

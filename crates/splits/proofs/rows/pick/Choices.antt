@@ -1,7 +1,7 @@
 use mathlib.Core.Path.{_≡_}
 use mathlib.Core.List.{_++_}
 use Prim.Native.Nat.{_≤_, _+_}
-use lib.ListN.{length, take}
+use lib.ListN.{take}
 use Rattle.splits.specs.Marks.{marked}
 use Rattle.splits.proofs.rows.pick.Given as given
 

@@ -1,0 +1,2 @@
+pub mod KindCommands
+pub mod KindReplies

@@ -1,0 +1,3 @@
+pub mod RuleCommands
+pub mod ShownTexts
+pub mod RuleReplies

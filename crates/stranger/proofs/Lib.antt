@@ -1,0 +1,4 @@
+pub mod Numbers
+pub mod MultiplesLaws
+pub mod Sums
+pub mod Refusing
