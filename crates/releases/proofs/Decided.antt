@@ -92,7 +92,7 @@ Gate-case P (some (leaf kind s)) = Unit {0}
 Gate-case P (some (gate k cs)) = P k cs
 
 module _ (m : KindModel) (rule : List Entry) where
-  pub leaf? : (P : ℕ → ℕ → Image → Type 0) (i : ℕ) → ((kind : ℕ) (s : Image) → Dec (P i kind s)) → Dec (At-leaf m rule P i)
+  pub leaf? : (P : ℕ → ℕ → Image → Type 0) (i : ℕ) → ((kind : ℕ) (s : Image) → Dec (P i kind s)) → Dec (At-leaf rule P i)
   leaf? P i d = go (case (getElem? rule i))
     where
       case : (e : Found Entry) → Dec (Leaf-case (P i) e)
@@ -100,7 +100,7 @@ module _ (m : KindModel) (rule : List Entry) where
       case (some (leaf kind s)) = d kind s
       case (some (gate k cs)) = yes tt
 
-      go : Dec (Leaf-case (P i) (getElem? rule i)) → Dec (At-leaf m rule P i)
+      go : Dec (Leaf-case (P i) (getElem? rule i)) → Dec (At-leaf rule P i)
       go (yes p) = yes (λ kind s h. subst (Leaf-case (P i)) h p)
       go (no n) = no (λ f. n (back (getElem? rule i) (λ kind s h. f kind s h)))
         where
@@ -109,7 +109,7 @@ module _ (m : KindModel) (rule : List Entry) where
           back (some (leaf kind s)) f = f kind s refl
           back (some (gate k cs)) f = tt
 
-  pub gate? : (P : ℕ → ℕ → List ℕ → Type 0) (i : ℕ) → ((k : ℕ) (cs : List ℕ) → Gate-at rule i k cs → Dec (P i k cs)) → Dec (At-gate m rule P i)
+  pub gate? : (P : ℕ → ℕ → List ℕ → Type 0) (i : ℕ) → ((k : ℕ) (cs : List ℕ) → Gate-at rule i k cs → Dec (P i k cs)) → Dec (At-gate rule P i)
   gate? P i d = go (case (getElem? rule i) (λ k cs h. d k cs h))
     where
       case : (e : Found Entry) → ((k : ℕ) (cs : List ℕ) → e ≡ some (gate k cs) → Dec (P i k cs)) → Dec (Gate-case (P i) e)
@@ -122,15 +122,15 @@ module _ (m : KindModel) (rule : List Entry) where
       back (some (leaf kind s)) f = tt
       back (some (gate k cs)) f = f k cs refl
 
-      go : Dec (Gate-case (P i) (getElem? rule i)) → Dec (At-gate m rule P i)
+      go : Dec (Gate-case (P i) (getElem? rule i)) → Dec (At-gate rule P i)
       go (yes p) = yes (λ k cs h. subst (Gate-case (P i)) h p)
       go (no n) = no (λ f. n (back (getElem? rule i) (λ k cs h. f k cs h)))
 
   -- what is asked of all leaves
   leaves? : (P : ℕ → ℕ → Image → Type 0) → ((i kind : ℕ) (s : Image) → Dec (P i kind s)) → Dec ((i kind : ℕ) (s : Image) → Leaf-at rule i kind s → P i kind s)
-  leaves? P d = go (all? (length rule) (At-leaf m rule P) (λ i. leaf? P i (d i)))
+  leaves? P d = go (all? (length rule) (At-leaf rule P) (λ i. leaf? P i (d i)))
     where
-      go : Dec ((i : ℕ) → i < length rule → At-leaf m rule P i) → Dec ((i kind : ℕ) (s : Image) → Leaf-at rule i kind s → P i kind s)
+      go : Dec ((i : ℕ) → i < length rule → At-leaf rule P i) → Dec ((i kind : ℕ) (s : Image) → Leaf-at rule i kind s → P i kind s)
       go (yes a) = yes (λ i kind s h. a i (inside rule i (leaf kind s) h) kind s h)
       go (no n) = no (λ f. n (λ i l kind s h. f i kind s h))
 

@@ -110,7 +110,7 @@ after-refusal b (fork slot slot′ room) = b
 abbrev pub word-count : List Entry → ℕ
 word-count rule = length rule + 6 * leaves rule
 
-module _ (m : KindModel) (rule : List Entry) where
+module _ (rule : List Entry) where
   -- at a leaf, at a gate; nothing is asked of other entries
   abbrev pub At-leaf : (ℕ → ℕ → Image → Type 0) → ℕ → Type 0
   At-leaf P i = (kind : ℕ) (s : Image) → Leaf-at rule i kind s → P i kind s
@@ -118,6 +118,7 @@ module _ (m : KindModel) (rule : List Entry) where
   abbrev pub At-gate : (ℕ → ℕ → List ℕ → Type 0) → ℕ → Type 0
   At-gate P i = (k : ℕ) (children : List ℕ) → Gate-at rule i k children → P i k children
 
+module _ (m : KindModel) (rule : List Entry) where
   pub record Fits (t : Transcript) (x : ℕ) : Type 0 where
     pub scalars : x < length rule → T (is-scalar m (challenge t x))
     pub images : (i kind : ℕ) (s : Image) → Leaf-at rule i kind s → x ≡ length rule + 4 * number rule i → IsImage m kind (commitment rule t i)
@@ -127,8 +128,8 @@ module _ (m : KindModel) (rule : List Entry) where
   abbrev pub Keyed : List (Option Key) → (Option Refusal → Type 0) → Option Refusal → Type 0
   Keyed keys next =
       Test (length keys ≡ leaves rule) (KeyCount (length keys))
-      (Each (length rule) (At-leaf (λ i kind s. If-held (IsKey m kind) (key rule keys i))) (λ i. NoKey (number rule i))
-      (Each (length rule) (At-leaf (λ i kind s. If-held (λ x. m .kind kind .image x ≡ s) (key rule keys i))) (λ i. Unopened (number rule i))
+      (Each (length rule) (At-leaf rule (λ i kind s. If-held (IsKey m kind) (key rule keys i))) (λ i. NoKey (number rule i))
+      (Each (length rule) (At-leaf rule (λ i kind s. If-held (λ x. m .kind kind .image x ≡ s) (key rule keys i))) (λ i. Unopened (number rule i))
       (Test (Satisfied m rule keys) Unsatisfied next)))
 
   abbrev pub Taped : List Scalar → (Option Refusal → Type 0) → Option Refusal → Type 0
@@ -141,9 +142,9 @@ module _ (m : KindModel) (rule : List Entry) where
       let t = parsed rule ws in
       Test (length ws ≡ word-count rule) TranscriptLength
       (Each (word-count rule) (Fits t) UnfitWord
-      (Each (length rule) (At-gate (λ i k children. Balanced (scalars-model (m .q)) k (challenge t i) (map (challenge t) children))) Unbalanced
+      (Each (length rule) (At-gate rule (λ i k children. Balanced (scalars-model (m .q)) k (challenge t i) (map (challenge t) children))) Unbalanced
       (Each (length rule)
-      (At-leaf (λ i kind s. m .kind kind .image (response rule t i) ≡ m .kind kind .product (commitment rule t i) (raised m kind s (challenge t i .0))))
+      (At-leaf rule (λ i kind s. m .kind kind .image (response rule t i) ≡ m .kind kind .product (commitment rule t i) (raised m kind s (challenge t i .0))))
       (λ i. EquationFails (number rule i)) next)))
 
   abbrev pub Refuses : Bench → Call → Option Refusal → Type 0
