@@ -16,7 +16,7 @@ use Rattle.splits.specs.Gates.{Balanced, Agree, Differing}
 use Rattle.splits.specs.Gates.{none, same, other}
 use Rattle.splits.specs.Marks.{missing, marked, points-from}
 use Rattle.splits.proofs.Picked.{all-from, members-from}
-use Rattle.splits.proofs.Splitting.{nodes, values, Solved, nodes-in, values-in, nodes-apart, as-long, is-balanced, is-kept, is-only}
+use Rattle.splits.proofs.Splitting.{nodes, values, Solved, nodes-in, values-in, nodes-apart, as-long, is-balanced, is-kept, is-only, determined}
 use Rattle.splits.proofs.Forks.{at-least-differ}
 use Rattle.releases.specs.Entries.{count}
 use Rattle.releases.proofs.Places.{run, length-run, getD-run}
@@ -98,7 +98,7 @@ module _ {E : Type 0} {m : FieldModel E} (laws : FieldLaws m) where
       let f : ℕ → E = λ j. cond (getD known j false) (getD given j (m .zero)) (newton m ns (o .0) (getD (points-from m 1 (length given)) j (m .zero))) in
       let after = run f (length given) in
       let after-long = length-run f (length given) in
-      let solved : Solved m own known given ns vs (o .0) after = (o .1, o .2, o .3, λ j l. getD-run f (length given) j (m .zero) l) in (
+      let solved : Solved m own known given ns vs (o .0) after = (o .1, o .2, λ j l. getD-run f (length given) j (m .zero) l) in (
         after,
         (
           after-long,
@@ -125,8 +125,28 @@ module _ {E : Type 0} {m : FieldModel E} (laws : FieldLaws m) where
   pub same-children : (own : E) (known : List Bool) → length known ≤ 8 → (cs cs′ : List E) → length cs ≡ length known → length cs′ ≡ length known
       → Balanced m (missing known) own cs → Balanced m (missing known) own cs′ → marked known cs ≡ marked known cs′ → cs ≡ cs′
   same-children own known few cs cs′ l l′ b b′ e =
-      let o = split own known cs′ (sym l′) (omega arith) (own-in (missing known) own cs b) (child-in (missing known) own cs′ (omega arith) b′) in
-      o .1 .3 cs (l ∙ sym l′) b (marked-agree m known cs cs′ (sym l) (sym l′) e) ∙ sym (o .1 .3 cs′ refl b′ (λ j h t. refl))
+      determined laws own known cs′ (sym l′) (omega arith) cs cs′ (l ∙ sym l′) refl b b′ (marked-agree m known cs cs′ (sym l) (sym l′) e) (λ j h t. refl)
+
+  same-list? : (xs ys : List E) → Dec (xs ≡ ys)
+  same-list? [] [] = yes refl
+  same-list? [] (y ∷ ys) = no (λ e. let l : _≡_ {A = ℕ} 0 (suc (length ys)) = ap length e in omega arith)
+  same-list? (x ∷ xs) [] = no (λ e. let l : _≡_ {A = ℕ} (suc (length xs)) 0 = ap length e in omega arith)
+  same-list? (x ∷ xs) (y ∷ ys) = go (laws .same? x y) (same-list? xs ys)
+    where
+      go : Dec (x ≡ y) → Dec (xs ≡ ys) → Dec (x ∷ xs ≡ y ∷ ys)
+      go (yes e) (yes f) = yes (ap₂ _∷_ e f)
+      go (no n) f = no (λ e. n (ap (λ u. getD u 0 x) e))
+      go (yes e) (no n) = no (λ f. n (ap (drop 1) f))
+
+  -- whether a gate balances: it does where it is the one split that has its marked children
+  pub balanced? : (own : E) (known : List Bool) (cs : List E) → length known ≡ length cs → length cs ≤ 8 → In own → Members m cs → Dec (Balanced m (missing known) own cs)
+  balanced? own known cs long few own′ cs′ =
+      let o = split own known cs long few own′ cs′ in
+      go (o .0) (o .1 .1) (λ b. o .1 .3 cs refl b (λ j h t. refl)) (same-list? cs (o .0))
+    where
+      go : (after : List E) → Balanced m (missing known) own after → (Balanced m (missing known) own cs → cs ≡ after) → Dec (cs ≡ after) → Dec (Balanced m (missing known) own cs)
+      go after b one (yes e) = yes (subst (Balanced m (missing known) own) (sym e) b)
+      go after b one (no n) = no (λ c. n (one c))
 
   -- whatever marks each child that differs marks at least as many as differ
   differ : (ch ch′ : ℕ → E) (f : ℕ → Bool) (cs : List ℕ) → ((j : ℕ) → j < length cs → ¬ (ch (getD cs j 0) ≡ ch′ (getD cs j 0)) → T (f (getD cs j 0)))

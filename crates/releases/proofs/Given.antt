@@ -39,12 +39,12 @@ missing-real real (c ∷ cs) = go (real c) (missing-real real cs)
     go true e = ap suc e
     go false e = e
 
-first-long : (d : ℕ) (cs : List ℕ) → length (first-marks d cs) ≡ length cs
+pub first-long : (d : ℕ) (cs : List ℕ) → length (first-marks d cs) ≡ length cs
 first-long d [] = refl
 first-long zero (c ∷ cs) = ap suc (first-long zero cs)
 first-long (suc d) (c ∷ cs) = ap suc (first-long d cs)
 
-missing-first : (d : ℕ) (cs : List ℕ) → missing (first-marks d cs) ≡ length cs - d
+pub missing-first : (d : ℕ) (cs : List ℕ) → missing (first-marks d cs) ≡ length cs - d
 missing-first d [] = omega arith
 missing-first zero (c ∷ cs) = let r = missing-first zero cs in omega arith
 missing-first (suc d) (c ∷ cs) = let r = missing-first d cs in omega arith

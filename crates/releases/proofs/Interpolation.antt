@@ -1,4 +1,4 @@
--- Any values at different points lie on one polynomial with as many coefficients as there are points.
+-- Any values at different points lie on a polynomial with as many coefficients as there are points.
 use mathlib.Core.Path.{_≡_, _∙_}
 use mathlib.Core.List.{List}
 use Prim.Native.Nat.{ℕ, zero, suc, _+_, _≤_, _<_}
@@ -10,7 +10,7 @@ use Rattle.std.proofs.shelf.Lists.{getD-take, length-take-le}
 use Rattle.fields.specs.Fields.{FieldModel, FieldLaws, minus}
 use Rattle.polynomials.specs.Polynomials.{Members, Apart, Passes, Polynomial, newton, weight}
 use Rattle.polynomials.proofs.Carried.{newton-in, weight-in, weight-apart, newton-polynomial}
-use Rattle.polynomials.proofs.Steps.{Begun, members-take, begun-first, begun-more, begun-all, only-one}
+use Rattle.polynomials.proofs.Steps.{Begun, members-take, begun-first, begun-more, begun-all}
 use Rattle.releases.proofs.Arithmetic.{minus-in, quotient}
 
 module _ {E : Type 0} {m : FieldModel E} (laws : FieldLaws m) (points given : List E) (long : length points ≡ length given)
@@ -52,11 +52,6 @@ module _ {E : Type 0} {m : FieldModel E} (laws : FieldLaws m) (points given : Li
       go (no l) more = (values, (e, b .0, begun-all laws points given values i e (omega arith) b))
 
   pub through : (cs : List E) × Polynomial m (length points) (newton m points cs) × Passes m (newton m points cs) points given
-      × ((f : E → E) → Polynomial m (length points) f → Passes m f points given → (x : E) → T (m .member x) → f x ≡ newton m points cs x)
   through =
-      let o = loop (length points) 1 given (omega arith) long (begun-first laws points given long points-in given-in) in (
-        o .0,
-        newton-polynomial laws points (o .0) points-in (o .1 .1) (o .1 .0),
-        o .1 .2,
-        only-one laws points given (o .0) (o .1 .0) points-in (o .1 .1) apart (o .1 .2),
-      )
+      let o = loop (length points) 1 given (omega arith) long (begun-first laws points given long points-in given-in) in
+      (o .0, newton-polynomial laws points (o .0) points-in (o .1 .1) (o .1 .0), o .1 .2)

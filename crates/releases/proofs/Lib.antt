@@ -25,3 +25,5 @@ pub mod Running
 pub mod Standing
 pub mod Once
 pub mod Deciding
+pub mod Decided
+pub mod Replying

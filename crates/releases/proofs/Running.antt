@@ -131,7 +131,7 @@ module _ (m : KindModel) (rule : List Entry) (st : Setting m rule) where
   silent : (r : Reply) → (is-wrote r → ⊥) → (ws : List ℕ) → r ≡ wrote ws → Good-words ws
   silent r n ws e = absurd (n (subst is-wrote (sym e) tt))
 
-  after-kept : (b : Bench) (c : Call) → Inv b → Inv (after-refusal m rule b c) × (after-refusal m rule b c .drawer ≡ b .drawer)
+  after-kept : (b : Bench) (c : Call) → Inv b → Inv (after-refusal b c) × (after-refusal b c .drawer ≡ b .drawer)
   after-kept b (commit keys tape room) i = (i, refl)
   after-kept b (answer chit c room) i = go (names (b .holds) chit)
     where

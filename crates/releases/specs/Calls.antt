@@ -91,11 +91,26 @@ abbrev pub If-held : (Key → Type 0) → Option Key → Type 0
 If-held P None = Unit {0}
 If-held P (Some x) = P x
 
+abbrev pub Room : ℕ → ℕ → (Option Refusal → Type 0) → Option Refusal → Type 0
+Room room n = Test (room ≡ n) OutputLength
+
+abbrev pub Slotted : Bench → ℕ → (Option Refusal → Type 0) → Option Refusal → Type 0
+Slotted b slot next = Test (IsSlot slot) (NoSlot slot) (Test (Filled (slot-at b slot)) (SlotEmpty slot) next)
+
+abbrev pub after-refusal : Bench → Call → Bench
+after-refusal b (commit keys tape room) = b
+after-refusal b (answer chit c room) = cond (names (b .holds) chit) (with-holds b None) b
+after-refusal b (scrap chit) = b
+after-refusal b (simulate c tape room) = b
+after-refusal b (file slot ws) = b
+after-refusal b (remove slot) = b
+after-refusal b (fork slot slot′ room) = b
+
 -- N + 6L
 abbrev pub word-count : List Entry → ℕ
 word-count rule = length rule + 6 * leaves rule
 
-module _ (m : KindModel) (rule : List Entry) where
+module _ (rule : List Entry) where
   -- at a leaf, at a gate; nothing is asked of other entries
   abbrev pub At-leaf : (ℕ → ℕ → Image → Type 0) → ℕ → Type 0
   At-leaf P i = (kind : ℕ) (s : Image) → Leaf-at rule i kind s → P i kind s
@@ -103,20 +118,18 @@ module _ (m : KindModel) (rule : List Entry) where
   abbrev pub At-gate : (ℕ → ℕ → List ℕ → Type 0) → ℕ → Type 0
   At-gate P i = (k : ℕ) (children : List ℕ) → Gate-at rule i k children → P i k children
 
+module _ (m : KindModel) (rule : List Entry) where
   pub record Fits (t : Transcript) (x : ℕ) : Type 0 where
     pub scalars : x < length rule → T (is-scalar m (challenge t x))
     pub images : (i kind : ℕ) (s : Image) → Leaf-at rule i kind s → x ≡ length rule + 4 * number rule i → IsImage m kind (commitment rule t i)
     pub firsts : (i kind : ℕ) (s : Image) → Leaf-at rule i kind s → x ≡ length rule + 4 * leaves rule + 2 * number rule i → T (is-scalar m (response rule t i .0))
     pub seconds : (i kind : ℕ) (s : Image) → Leaf-at rule i kind s → x ≡ length rule + 4 * leaves rule + 2 * number rule i + 1 → IsKey m kind (scalar 0, response rule t i .1)
 
-  abbrev pub Room : ℕ → ℕ → (Option Refusal → Type 0) → Option Refusal → Type 0
-  Room room n = Test (room ≡ n) OutputLength
-
   abbrev pub Keyed : List (Option Key) → (Option Refusal → Type 0) → Option Refusal → Type 0
   Keyed keys next =
       Test (length keys ≡ leaves rule) (KeyCount (length keys))
-      (Each (length rule) (At-leaf (λ i kind s. If-held (IsKey m kind) (key rule keys i))) (λ i. NoKey (number rule i))
-      (Each (length rule) (At-leaf (λ i kind s. If-held (λ x. m .kind kind .image x ≡ s) (key rule keys i))) (λ i. Unopened (number rule i))
+      (Each (length rule) (At-leaf rule (λ i kind s. If-held (IsKey m kind) (key rule keys i))) (λ i. NoKey (number rule i))
+      (Each (length rule) (At-leaf rule (λ i kind s. If-held (λ x. m .kind kind .image x ≡ s) (key rule keys i))) (λ i. Unopened (number rule i))
       (Test (Satisfied m rule keys) Unsatisfied next)))
 
   abbrev pub Taped : List Scalar → (Option Refusal → Type 0) → Option Refusal → Type 0
@@ -129,13 +142,10 @@ module _ (m : KindModel) (rule : List Entry) where
       let t = parsed rule ws in
       Test (length ws ≡ word-count rule) TranscriptLength
       (Each (word-count rule) (Fits t) UnfitWord
-      (Each (length rule) (At-gate (λ i k children. Balanced (scalars-model (m .q)) k (challenge t i) (map (challenge t) children))) Unbalanced
+      (Each (length rule) (At-gate rule (λ i k children. Balanced (scalars-model (m .q)) k (challenge t i) (map (challenge t) children))) Unbalanced
       (Each (length rule)
-      (At-leaf (λ i kind s. m .kind kind .image (response rule t i) ≡ m .kind kind .product (commitment rule t i) (raised m kind s (challenge t i .0))))
+      (At-leaf rule (λ i kind s. m .kind kind .image (response rule t i) ≡ m .kind kind .product (commitment rule t i) (raised m kind s (challenge t i .0))))
       (λ i. EquationFails (number rule i)) next)))
-
-  abbrev pub Slotted : Bench → ℕ → (Option Refusal → Type 0) → Option Refusal → Type 0
-  Slotted b slot next = Test (IsSlot slot) (NoSlot slot) (Test (Filled (slot-at b slot)) (SlotEmpty slot) next)
 
   abbrev pub Refuses : Bench → Call → Option Refusal → Type 0
   Refuses b (commit keys tape room) = Room room (4 * leaves rule) (Test (¬ (b .count ≡ 65535)) CountFull (Keyed keys (Taped tape Clear)))
@@ -150,15 +160,6 @@ module _ (m : KindModel) (rule : List Entry) where
       Slotted b slot (Slotted b slot′ (Room room (leaves rule)
       (Each (leaves rule) (λ l. getD (t .commitments) l zeros ≡ getD (t′ .commitments) l zeros) CommitmentsDiffer
       (Test (¬ (challenge t 0 ≡ challenge t′ 0)) ChallengesEqual Clear))))
-
-  abbrev pub after-refusal : Bench → Call → Bench
-  after-refusal b (commit keys tape room) = b
-  after-refusal b (answer chit c room) = cond (names (b .holds) chit) (with-holds b None) b
-  after-refusal b (scrap chit) = b
-  after-refusal b (simulate c tape room) = b
-  after-refusal b (file slot ws) = b
-  after-refusal b (remove slot) = b
-  after-refusal b (fork slot slot′ room) = b
 
   -- words that stand for a transcript
   abbrev pub Written : (Transcript → Type 0) → List ℕ → Type 0

@@ -6,6 +6,7 @@
 --   Stands m rule events b    forks of filed transcripts are obeyed, and their keys open their leaves and satisfy the rule;
 --                             what was answered or simulated can be filed, word for word, into any slot left empty
 --   Always-stands             this holds after every list of calls at a new bench
+--   Replies-once              after every list of calls, every call has exactly one reply and leaves exactly one bench
 --   Simulated-once            at a new bench, exactly one tape simulates the words of an acceptable transcript
 --   Answered-once             and exactly one commits and answers them, for keys that open their leaves and satisfy the rule
 use mathlib.Core.Path.{_≡_}
@@ -46,6 +47,11 @@ pub record Stands (m : KindModel) (rule : List Entry) (events : List Event) (b :
 abbrev pub Always-stands : Type 0
 Always-stands =
     (m : KindModel) (rule : List Entry) → Setting m rule → (events : List Event) (b : Bench) → Run m rule fresh events b → Stands m rule events b
+
+abbrev pub Replies-once : Type 0
+Replies-once =
+    (m : KindModel) (rule : List Entry) → Setting m rule → (events : List Event) (b : Bench) → Run m rule fresh events b
+    → (c : Call) → Only {A = Reply × Bench} (λ p. Step m rule b c (p .0) (p .1))
 
 abbrev pub Simulated-once : Type 0
 Simulated-once =

@@ -1,5 +1,5 @@
 // Releases by key holders: what they are, and what holds of every one. Each function's contract is a theorem, so that the check asks for its proof.
-ghost use Rattle.releases.specs.Runs.{«Always-stands», «Simulated-once», «Answered-once»};
+ghost use Rattle.releases.specs.Runs.{«Always-stands», «Replies-once», «Simulated-once», «Answered-once»};
 ghost use Rattle.releases.specs.Theorems.{«Satisfied-only», «Forks-satisfy», «Simulated-fits», «First-chosen», «Chosen-fits», «Answered-fits», «One-simulated-tape», «One-honest-tape», «Words», «Reading-sets»};
 
 // A leaf is satisfied by its key alone and a gate by its children alone: no other marks keep that equation.
@@ -92,6 +92,13 @@ pub fn calls_simulate_once() -> u8
 // At a new bench, exactly one tape commits and answers an acceptable transcript, for keys that open their leaves and satisfy the rule.
 pub fn calls_answer_once() -> u8
     ensures { λ _. ⌜ «Answered-once» ⌝ }
+{
+    0
+}
+
+// After every list of calls at a new bench, each call has exactly one reply and leaves exactly one bench.
+pub fn calls_reply_once() -> u8
+    ensures { λ _. ⌜ «Replies-once» ⌝ }
 {
     0
 }
