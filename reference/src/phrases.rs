@@ -26,10 +26,10 @@ pub fn meaning(call: Call, refusal: Refusal) -> &'static str {
         (3, _, _) => "no group of order q has this modulus p",
         (4, 3, _) => "the base g is no element of the group, or is neutral",
         (4, _, _) => "the base h is no element of the group, or is neutral",
-        (5, 1, _) => "the two sides differ in q",
-        (5, _, _) => "the two sides have more than 255 kinds together",
-        (6, _, _) => "the text has no byte, or more than 240",
-        (7, _, _) => "a byte that the grammar does not allow next, or the end of the text",
+        (5, 1, _) => "the two sets of a join differ in their order q",
+        (5, _, _) => "the two sets of a join have more than 255 kinds together",
+        (6, _, _) => "the rule's text has no byte, or more than 240",
+        (7, _, _) => "a rule does not go on with this byte, or ends too early",
         (8, _, _) => "a number or a digit out of range",
         (9, _, _) => "too deep, too many keys or items, or too few items",
         (10, _, _) => "a key's number stands in no line of the ring",
@@ -65,7 +65,7 @@ pub enum Wanted {
     Number,
     Byte,
     Children,
-    Threshold(usize),
+    Threshold,
     Scalar,
     Divisor,
     Hex,
@@ -93,8 +93,8 @@ fn wanted(what: Wanted) -> String {
         Wanted::GateCommand => "split, complete or check",
         Wanted::Number => "a number from 0 to 4294967295",
         Wanted::Byte => "a number from 0 to 255",
-        Wanted::Children => "a number from 1 to 8",
-        Wanted::Threshold(most) => return format!("a number from 1 to {most}"),
+        Wanted::Children => "a number of children from 1 to 8",
+        Wanted::Threshold => "a number from 1 to the number of children",
         Wanted::Scalar => "a scalar below q",
         Wanted::Divisor => "a divisor other than 0",
         Wanted::Hex => "hexadecimal digits, two a byte",
@@ -115,10 +115,10 @@ pub fn expected(misfit: &Misfit) -> String {
             format!("word 2 to name a group that was made, and no {} group was", shape.name())
         }
         Misfit::NotMade(Missing::Under(shape)) => {
-            format!("word 1 to find both groups made, and no {} group was", shape.name())
+            format!("word 1 to come after a {} group was made", shape.name())
         }
-        Misfit::NotMade(Missing::Rule) => "word 2 to find a rule, and none was read".to_string(),
-        Misfit::NoneUnknown => "a child that is unknown".to_string(),
+        Misfit::NotMade(Missing::Rule) => "word 1 to come after a rule was read".to_string(),
+        Misfit::NoneUnknown => "word 5 or one after it to be -".to_string(),
     }
 }
 

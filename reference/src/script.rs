@@ -514,8 +514,15 @@ fn gate(words: &Words) -> Result<Reply, Fault> {
 
 fn gate_split(words: &Words) -> Result<Reply, Fault> {
     let q = words.number(3)?;
-    let count = words.within(4, 1, 8, Wanted::Children)? as usize;
-    let threshold = words.within(5, 1, count as u64, Wanted::Threshold(count))? as usize;
+    let count = words.number(4)? as usize;
+    if count == 0 || count > 8 {
+        return misfit(4, Wanted::Children);
+    }
+    let threshold = words.number(5)?;
+    if threshold == 0 || threshold > count as u64 {
+        return misfit(5, Wanted::Threshold);
+    }
+    let threshold = threshold as usize;
     let own = words.number(6)?;
     let last = 6 + count - threshold;
     let known: Vec<u64> = (7..=last).map(|word| words.number(word)).collect::<Result<_, _>>()?;
@@ -548,13 +555,15 @@ fn gate_complete(words: &Words) -> Result<Reply, Fault> {
 }
 
 fn gate_check(words: &Words) -> Result<Reply, Fault> {
-    let q = words.number(3)?;
+    let [q, threshold, own] = words.numbers(3)?;
     let most = words.count().clamp(6, 13) - 5;
-    let threshold = words.within(4, 1, most as u64, Wanted::Threshold(most))? as usize;
-    let own = words.number(5)?;
     let children: Vec<u64> = (6..6 + most).map(|word| words.number(word)).collect::<Result<_, _>>()?;
     words.end_after(13)?;
     let scalars = scalars_of(q)?;
+    if threshold == 0 || threshold > most as u64 {
+        return misfit(4, Wanted::Threshold);
+    }
+    let threshold = threshold as usize;
     are_scalars(&scalars, 5, &[own])?;
     are_scalars(&scalars, 6, &children)?;
     Ok(yes_no("balanced", splits::balanced(&scalars, threshold, own, &children)))
