@@ -5,11 +5,11 @@ use native.Mathlib.Omega.{arith}
 use lib.Dec.{T}
 use lib.ListN.{length, getD, getElem?, take, drop, length-drop}
 use Rattle.rules.specs.Tables.{leaf, node, WellFormed}
-use Rattle.rules.specs.Views.{row-of, children-of}
+use Rattle.rules.specs.Views.{children-of}
 use Rattle.rules.specs.Texts.{rows-in}
 use Rattle.rules.proofs.Whole.{table-well-formed}
 use Rattle.descent.specs.Descents.{share-size, before, AtGate, Descends}
-use Rattle.descent.proofs.Shares.{before-none, before-more, before-rises}
+use Rattle.descent.proofs.Shares.{before-none, before-more, share-room, gate-row, leaf-row}
 use Rattle.descent.proofs.Moved.{any-default, to-end, part-members}
 use Rattle.descent.proofs.Going.{Passed, passed-none, passed-leaf, passed-gate, passed-all}
 use Rattle.descent.proofs.descend.split_down.Needs as need
@@ -40,102 +40,64 @@ returns g c =
     (omega (arith, c .loop-i-test .left, c .len-i-end .ensures .is)) (c .loop-i .inv .3))
 
 pub offset-shares-used : need.offset-shares-used
-unfolding row-of
 offset-shares-used g c =
-    let es = rows-in (c .args .table .now) in
-    let formed = table-well-formed (c .args .table .now) in
-    let i = c .loop-i .i in
-    let cs = children-of (c .in-Gate .children) in
-    let k = c .in-Gate .threshold in
-    let at : getElem? es i ≡ some (node k cs) = c .in-Some .ensures tt ∙ ap (λ e. some (row-of e)) (c .in-Gate .is) in
-    let more = before-more es i (node k cs) at in
-    let below = before-rises es (i + 1) (length es) (omega (arith, c .loop-i-test .taken, c .len-i-end .ensures .is)) in
-    omega (arith, more, below, c .loop-i .inv .1, c .pre .sizes .1)
+    let at = gate-row (rows-in (c .args .table .now)) (c .loop-i .i) (c .in-Gate .threshold) (c .in-Gate .children) (c .in-Some .entry) (c .in-Some .ensures tt) (c .in-Gate .is) in
+    let room = share-room (rows-in (c .args .table .now)) (c .loop-i .i) (c .in-Gate .threshold) (length (c .args .shares .now)) (children-of (c .in-Gate .children)) at
+    (omega (arith, c .loop-i-test .taken, c .len-i-end .ensures .is)) (c .pre .sizes .1) in
+    omega (arith, room, c .loop-i .inv .1)
 
 pub part-split-gate-count : need.part-split-gate-count
-unfolding row-of
 part-split-gate-count g c =
-    let es = rows-in (c .args .table .now) in
-    let formed = table-well-formed (c .args .table .now) in
-    let i = c .loop-i .i in
-    let cs = children-of (c .in-Gate .children) in
-    let k = c .in-Gate .threshold in
-    let at : getElem? es i ≡ some (node k cs) = c .in-Some .ensures tt ∙ ap (λ e. some (row-of e)) (c .in-Gate .is) in
-    let more = before-more es i (node k cs) at in
-    let below = before-rises es (i + 1) (length es) (omega (arith, c .loop-i-test .taken, c .len-i-end .ensures .is)) in
-    omega (arith, more, below, c .loop-i .inv .1, c .pre .sizes .1)
+    let at = gate-row (rows-in (c .args .table .now)) (c .loop-i .i) (c .in-Gate .threshold) (c .in-Gate .children) (c .in-Some .entry) (c .in-Some .ensures tt) (c .in-Gate .is) in
+    let room = share-room (rows-in (c .args .table .now)) (c .loop-i .i) (c .in-Gate .threshold) (length (c .args .shares .now)) (children-of (c .in-Gate .children)) at
+    (omega (arith, c .loop-i-test .taken, c .len-i-end .ensures .is)) (c .pre .sizes .1) in
+    omega (arith, room, c .loop-i .inv .1)
 
 pub part-split-gate-start : need.part-split-gate-start
-unfolding row-of
 part-split-gate-start g c =
-    let es = rows-in (c .args .table .now) in
+    let at = gate-row (rows-in (c .args .table .now)) (c .loop-i .i) (c .in-Gate .threshold) (c .in-Gate .children) (c .in-Some .entry) (c .in-Some .ensures tt) (c .in-Gate .is) in
+    let room = share-room (rows-in (c .args .table .now)) (c .loop-i .i) (c .in-Gate .threshold) (length (c .args .shares .now)) (children-of (c .in-Gate .children)) at
+    (omega (arith, c .loop-i-test .taken, c .len-i-end .ensures .is)) (c .pre .sizes .1) in
+    omega (arith, room, c .loop-i .inv .1)
+
+pub sub-used : need.sub-used
+sub-used g c =
+    let at = gate-row (rows-in (c .args .table .now)) (c .loop-i .i) (c .in-Gate .threshold) (c .in-Gate .children) (c .in-Some .entry) (c .in-Some .ensures tt) (c .in-Gate .is) in
+    omega (arith, c .len .ensures, table-well-formed (c .args .table .now) .fits (c .loop-i .i) (c .in-Gate .threshold) (children-of (c .in-Gate .children)) at)
+
+pub add-used : need.add-used
+add-used g c =
+    let at = gate-row (rows-in (c .args .table .now)) (c .loop-i .i) (c .in-Gate .threshold) (c .in-Gate .children) (c .in-Some .entry) (c .in-Some .ensures tt) (c .in-Gate .is) in
     let formed = table-well-formed (c .args .table .now) in
-    let i = c .loop-i .i in
-    let cs = children-of (c .in-Gate .children) in
-    let k = c .in-Gate .threshold in
-    let at : getElem? es i ≡ some (node k cs) = c .in-Some .ensures tt ∙ ap (λ e. some (row-of e)) (c .in-Gate .is) in
-    let more = before-more es i (node k cs) at in
-    let below = before-rises es (i + 1) (length es) (omega (arith, c .loop-i-test .taken, c .len-i-end .ensures .is)) in
-    omega (arith, more, below, c .loop-i .inv .1, c .pre .sizes .1)
+    omega (arith, c .len .ensures, formed .fits (c .loop-i .i) (c .in-Gate .threshold) (children-of (c .in-Gate .children)) at, c .loop-i .inv .2, formed .few-rows, c .len-i-end .ensures .is)
 
 pub split-gate-requires : need.split-gate-requires
-unfolding row-of
 split-gate-requires g c κs =
-    let es = rows-in (c .args .table .now) in
+    let m = g .F·Field .model (c .args .field .now) in
     let formed = table-well-formed (c .args .table .now) in
     let i = c .loop-i .i in
     let cs = children-of (c .in-Gate .children) in
     let k = c .in-Gate .threshold in
-    let at : getElem? es i ≡ some (node k cs) = c .in-Some .ensures tt ∙ ap (λ e. some (row-of e)) (c .in-Gate .is) in
-    let more = before-more es i (node k cs) at in
-    let below = before-rises es (i + 1) (length es) (omega (arith, c .loop-i-test .taken, c .len-i-end .ensures .is)) in
-    let m = g .F·Field .model (c .args .field .now) in
+    let at = gate-row (rows-in (c .args .table .now)) (c .loop-i .i) (c .in-Gate .threshold) (c .in-Gate .children) (c .in-Some .entry) (c .in-Some .ensures tt) (c .in-Gate .is) in
     let ss = c .args .shares .now in
     let fits = formed .fits i k cs at in
     let inv = c .loop-i .inv in
-    let room : c .loop-i .used ≤ length ss = omega (arith, more, below, inv .1, c .pre .sizes .1) in
+    let room = share-room (rows-in (c .args .table .now)) i k (length ss) cs at (omega (arith, c .loop-i-test .taken, c .len-i-end .ensures .is)) (c .pre .sizes .1) in
     let inside : i < length (c .loop-i .challenges) = omega (arith, c .loop-i-test .taken, c .len-i-end .ensures .is, inv .0) in
     let own : c .index-challenges-i .result ≡ getD (c .loop-i .challenges) i (m .zero) =
     c .index-challenges-i .is ∙ any-default (c .loop-i .challenges) i (c .index-challenges-i .result) (m .zero) inside in
     let rest : length (take (length ss - c .loop-i .used) (drop (c .loop-i .used) ss)) ≡ length ss - c .loop-i .used = ap length (to-end ss (c .loop-i .used)) ∙ length-drop (c .loop-i .used) ss in
     record {
-      sizes = (fits .1, (fits .3, omega (arith, rest, more, below, inv .1, c .pre .sizes .1)));
+      sizes = (fits .1, (fits .3, omega (arith, rest, room, inv .1)));
       elements = (
         subst (λ x. T (m .member x)) (sym own) (inv .3 .members i inside),
-        part-members (λ x. T (m .member x)) (m .zero) ss (c .loop-i .used) room (c .pre .elements .1),
+        part-members (λ x. T (m .member x)) (m .zero) ss (c .loop-i .used) (omega (arith, room, inv .1)) (c .pre .elements .1),
       );
       inside = λ j h. omega (arith, formed .later i k cs at j h .1, inv .0);
       rising = formed .rising i k cs at;
     }
 
-pub sub-used : need.sub-used
-unfolding row-of
-sub-used g c =
-    let es = rows-in (c .args .table .now) in
-    let formed = table-well-formed (c .args .table .now) in
-    let i = c .loop-i .i in
-    let cs = children-of (c .in-Gate .children) in
-    let k = c .in-Gate .threshold in
-    let at : getElem? es i ≡ some (node k cs) = c .in-Some .ensures tt ∙ ap (λ e. some (row-of e)) (c .in-Gate .is) in
-    let more = before-more es i (node k cs) at in
-    let below = before-rises es (i + 1) (length es) (omega (arith, c .loop-i-test .taken, c .len-i-end .ensures .is)) in
-    omega (arith, c .len .ensures, formed .fits i k cs at)
-
-pub add-used : need.add-used
-unfolding row-of
-add-used g c =
-    let es = rows-in (c .args .table .now) in
-    let formed = table-well-formed (c .args .table .now) in
-    let i = c .loop-i .i in
-    let cs = children-of (c .in-Gate .children) in
-    let k = c .in-Gate .threshold in
-    let at : getElem? es i ≡ some (node k cs) = c .in-Some .ensures tt ∙ ap (λ e. some (row-of e)) (c .in-Gate .is) in
-    let more = before-more es i (node k cs) at in
-    let below = before-rises es (i + 1) (length es) (omega (arith, c .loop-i-test .taken, c .len-i-end .ensures .is)) in
-    omega (arith, c .len .ensures, formed .fits i k cs at, c .loop-i .inv .2, formed .few-rows, c .len-i-end .ensures .is)
-
 pub loop-i-again : need.loop-i-again
-unfolding row-of
 loop-i-again g c =
     let m = g .F·Field .model (c .args .field .now) in
     let t = c .args .table .now in
@@ -152,7 +114,7 @@ loop-i-again g c =
           let ys = c .match-entry-2 .challenges in
           let cs = children-of (w .in-Gate .children) in
           let k = w .in-Gate .threshold in
-          let at : getElem? es i ≡ some (node k cs) = c .in-Some .ensures tt ∙ ap (λ e. some (row-of e)) (w .in-Gate .is) in
+          let at = gate-row es i k (w .in-Gate .children) (c .in-Some .entry) (c .in-Some .ensures tt) (w .in-Gate .is) in
           let more = before-more es i (node k cs) at in
           let inside : i < length xs = omega (arith, c .loop-i-test .taken, c .len-i-end .ensures .is, inv .0) in
           let own : w .index-challenges-i .result ≡ getD xs i (m .zero) = w .index-challenges-i .is ∙ any-default xs i (w .index-challenges-i .result) (m .zero) inside in
@@ -169,7 +131,7 @@ loop-i-again g c =
       | in-rest-entry w ↦
           let n = w .in-rest-entry .field-0 in
           let b = w .in-rest-entry .field-1 in
-          let at : getElem? es i ≡ some (leaf n b) = c .in-Some .ensures tt ∙ ap (λ e. some (row-of e)) (w .in-rest-entry .is) in (
+          let at = leaf-row es i n b (c .in-Some .entry) (c .in-Some .ensures tt) (w .in-rest-entry .is) in (
             long ∙ inv .0,
             omega (arith, w .used-is, inv .1, before-more es i (leaf n b) at),
             omega (arith, w .used-is, inv .2),
