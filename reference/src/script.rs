@@ -396,13 +396,10 @@ impl Session {
     }
 
     fn rule_split(&self, words: &Words) -> Result<Reply, Fault> {
-        let [q, challenge] = words.numbers(3)?;
-        let shares = words.numbers_from(5)?;
         let rule = self.made_rule()?;
+        let [q, challenge] = words.numbers(3)?;
         let wanted = splits::shares(rule);
-        if shares.len() < wanted {
-            return misfit(5 + shares.len(), Wanted::Number);
-        }
+        let shares = (5..5 + wanted).map(|number| words.number(number)).collect::<Result<Vec<u64>, Fault>>()?;
         words.end_after(4 + wanted)?;
         let scalars = scalars_of(q)?;
         are_scalars(&scalars, 4, &[challenge])?;

@@ -34,12 +34,15 @@ use Rattle.script_kinds.specs.KindReplies.{Residues, Circle as Circles, residue
 use Rattle.rules.specs.Tables.{Row}
 use Rattle.rules.specs.Texts.{rows-in}
 use Rattle.script_rules.specs.declared.reading.RuleCommand.{RuleCommand}
-use Rattle.script_rules.specs.declared.reading.RuleCommand.the-variants.{Read, Write}
+use Rattle.script_rules.specs.declared.reading.RuleCommand.the-variants.{Read, Write, Split}
 use Rattle.script_rules.specs.declared.answering.RuleReply.{RuleReply}
+use Rattle.script_rules.specs.declared.answering.RuleReply.the-variants as rule-replies
 use Rattle.script_rules.specs.RuleCommands.{rule-text}
 use Rattle.script_rules.specs.RuleReplies.{Reading, Writing, rule-of}
 use Rattle.script_gates.specs.declared.answering.GateReply.{GateReply}
 use Rattle.script_gates.specs.GateReplies.{Says}
+use Rattle.script_gates.specs.declared.descending.SplitReply.{SplitReply}
+use Rattle.script_gates.specs.SplitReplies.{Says-split}
 use Rattle.script.specs.declared.questions.Question.{Question}
 use Rattle.script.specs.declared.group_commands.GroupCommand.{GroupCommand}
 use Rattle.script.specs.declared.group_commands.GroupCommand.the-variants.{MakeResidue, MakeCircle, Ask}
@@ -123,14 +126,19 @@ abbrev pub Rule-written : Option (List Row) → Result RuleReply Fault → Type 
 Rule-written None r = r ≡ Err (fault 1 wants.AfterRule)
 Rule-written (Some rows) r = (x : RuleReply) × (r ≡ Ok x) × Writing rows x
 
+-- a reply of one kind among those of all
+abbrev pub among : {X Y : Type 0} → (X → Y) → Result X Fault → Result Y Fault
+among f (Ok r) = Ok (f r)
+among f (Err why) = Err why
+
+abbrev pub Rule-split : Option (List Row) → Result RuleReply Fault → Type 0
+Rule-split None r = r ≡ Err (fault 1 wants.AfterRule)
+Rule-split (Some rows) r = (x : Result SplitReply Fault) × (r ≡ among rule-replies.Split x) × Says-split rows x
+
 abbrev pub Rule-step : Model → RuleCommand → List ℕ → Result RuleReply Fault → Model → Type 0
 Rule-step m Read line r n = (x : RuleReply) × (r ≡ Ok x) × Rule-read m (rule-text line) x n
 Rule-step m Write line r n = Rule-written (m .rule-rows) r × (n ≡ m)
-
--- a reply of one topic among all
-abbrev pub among : {X : Type 0} → (X → Reply) → Result X Fault → Result Reply Fault
-among f (Ok r) = Ok (f r)
-among f (Err why) = Err why
+Rule-step m Split line r n = Rule-split (m .rule-rows) r × (n ≡ m)
 
 abbrev pub Obeyed : Model → Command → List ℕ → Result Reply Fault → Model → Type 0
 Obeyed m (commands.Group c) line r n = (r ≡ among replies.Group (group-step m c .0)) × (n ≡ group-step m c .1)

@@ -1,6 +1,7 @@
 // A session: the groups and the rule that a script made last.
 ghost use mathlib.Core.Path.{_≡_};
-ghost use Rattle.script.specs.Sessions.{model, fresh, «with-residue», «with-circle», asked, «group-step», «kinds-asked», «Rule-read», «Rule-written», «Rule-step», Obeyed, Answers};
+ghost use Rattle.words.specs.Words.{fault};
+ghost use Rattle.script.specs.Sessions.{model, fresh, «with-residue», «with-circle», asked, «group-step», «kinds-asked», «Rule-read», «Rule-written», «Rule-split», «Rule-step», Obeyed, Answers};
 use crate::command;
 use crate::command::Command;
 use crate::command::Reply;
@@ -30,6 +31,16 @@ pub struct Session {
     residue: Option<ResidueGroup>,
     circle: Option<CircleGroup>,
     rule: Option<Table>,
+}
+
+// That a command stands on a rule, and none was read.
+fn no_rule() -> Fault
+    ensures { λ r. ⌜ r ≡ fault 1 Expected.AfterRule ⌝ }
+{
+    Fault {
+        place: 1,
+        expected: Expected::AfterRule,
+    }
 }
 
 impl Session {
@@ -135,10 +146,17 @@ impl Session {
     {
         match self.rule {
             Some(table) => Ok(script_rules::write_rule(&table)),
-            None => Err(Fault {
-                place: 1,
-                expected: Expected::AfterRule,
-            }),
+            None => Err(no_rule()),
+        }
+    }
+
+    // Splits down the rule that was read last.
+    fn split_rule(&self, line: &[u8]) -> Result<RuleReply, Fault>
+        ensures { λ r. ⌜ «Rule-split» (model (now (self .entry)) .rule-rows) r ⌝ }
+    {
+        match self.rule {
+            Some(table) => Ok(RuleReply::Split(script_gates::answer_split(&table, line)?)),
+            None => Err(no_rule()),
         }
     }
 
@@ -148,6 +166,7 @@ impl Session {
         match command {
             RuleCommand::Read => Ok(self.read_rule(script_rules::rule_text(line))),
             RuleCommand::Write => self.write_rule(),
+            RuleCommand::Split => self.split_rule(line),
         }
     }
 

@@ -1,1 +1,2 @@
 pub mod GateReplies
+pub mod SplitReplies

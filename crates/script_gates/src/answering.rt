@@ -30,7 +30,7 @@ pub enum GateReply {
 }
 
 // The number at a place of the line as a scalar.
-fn scalar(scalars: &Scalars, place: u32, value: u32) -> Result<Scalar, Fault>
+pub(crate) fn scalar(scalars: &Scalars, place: u32, value: u32) -> Result<Scalar, Fault>
     ensures { λ r. ⌜ r ≡ «scalar-at» (now (scalars .entry) .q) place value ⌝ }
 {
     if value < scalars.order() {
@@ -44,13 +44,13 @@ fn scalar(scalars: &Scalars, place: u32, value: u32) -> Result<Scalar, Fault>
 }
 
 // The numbers as scalars; the first stands at a place of the line, and the others after it.
-fn take_scalars(
+pub(crate) fn take_scalars(
     scalars: &Scalars,
     place: u32,
     numbers: &[u32],
     to: &mut [Scalar],
 ) -> Result<(), Fault>
-    requires { ⌜ length (now numbers) ≡ length (now to) ⌝ ∗ ⌜ length (now to) ≤ 8 ⌝ }
+    requires { ⌜ length (now numbers) ≡ length (now to) ⌝ ∗ ⌜ length (now to) ≤ 31 ⌝ }
     ensures { λ r. ⌜ made r (λ _. Taken (now (scalars .entry) .q) (now (numbers .entry)) (now (to .exit))) ⌝ }
 {
     for i in 0..numbers.len() {
@@ -198,9 +198,12 @@ pub fn answer_gate(line: &[u8]) -> Result<GateReply, Fault>
     }
 }
 
-fn write_children<W: fmt::Write>(f: &mut fmt::Formatter<W>, children: &[Scalar]) -> fmt::Result {
-    for child in children {
-        let value = child.value();
+pub(crate) fn write_scalars<W: fmt::Write>(
+    f: &mut fmt::Formatter<W>,
+    scalars: &[Scalar],
+) -> fmt::Result {
+    for scalar in scalars {
+        let value = scalar.value();
         write!(f, " {value}")?;
     }
     Ok(())
@@ -213,7 +216,7 @@ pub impl fmt::Display for GateReply as GateReplyDisplay {
             GateReply::Children(children) => {
                 write!(f, "children")?;
                 let slots: &[Scalar] = &children.slots;
-                write_children(f, &slots[..children.len])
+                write_scalars(f, &slots[..children.len])
             }
             GateReply::Balanced(true) => write!(f, "balanced yes"),
             GateReply::Balanced(false) => write!(f, "balanced no"),

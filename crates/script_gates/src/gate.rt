@@ -1,4 +1,4 @@
-// A gate as a command gives it, and the challenges of its children.
+// A gate as a command gives it, and the challenges of its children or of a rule's entries.
 ghost use mathlib.Core.Path.{_≡_};
 ghost use Prim.Native.Nat.{_≤_};
 ghost use lib.ListN.{length};
@@ -32,4 +32,13 @@ pub struct Children {
     pub(crate) len: usize,
     ghost long: { length slots ≡ 8 },
     ghost within: { len ≤ 8 },
+}
+
+// The challenges of a rule's entries.
+#[derive(Clone, Copy)]
+pub struct Challenges {
+    pub(crate) slots: [Scalar; 31],
+    pub(crate) len: usize,
+    ghost long: { length slots ≡ 31 },
+    ghost within: { len ≤ 31 },
 }

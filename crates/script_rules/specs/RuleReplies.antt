@@ -21,21 +21,25 @@ Shows s why (says.Tree t) = ⊥
 Shows s why (says.Faulty x t) = (x ≡ why) × (text-in t ≡ s)
 Shows s why (says.Refused x) = (x ≡ why) × (1 ≤ length s → length s ≤ 240 → ⊥)
 Shows s why (says.Text t) = ⊥
+Shows s why (says.Split x) = ⊥
 
 abbrev pub Reading : List ℕ → RuleReply → Type 0
 Reading s (says.Tree t) = Read s (rows-in t)
 Reading s (says.Faulty x t) = Faulty s x × (text-in t ≡ s)
 Reading s (says.Refused x) = Faulty s x × (1 ≤ length s → length s ≤ 240 → ⊥)
 Reading s (says.Text t) = ⊥
+Reading s (says.Split x) = ⊥
 
 abbrev pub Writing : List Row → RuleReply → Type 0
 Writing es (says.Tree t) = ⊥
 Writing es (says.Faulty x t) = ⊥
 Writing es (says.Refused x) = ⊥
 Writing es (says.Text t) = Written es (text-in t)
+Writing es (says.Split x) = ⊥
 
 abbrev pub rule-of : RuleReply → Option (List Row) → Option (List Row)
 rule-of (says.Tree t) old = Some (rows-in t)
 rule-of (says.Faulty x t) old = old
 rule-of (says.Refused x) old = old
 rule-of (says.Text t) old = old
+rule-of (says.Split x) old = old

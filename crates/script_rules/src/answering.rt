@@ -5,6 +5,7 @@ use crate::text::Text;
 use refusals::Refusal;
 use rules::Table;
 use rules::read;
+use script_gates::SplitReply;
 
 #[derive(Clone, Copy)]
 pub enum RuleReply {
@@ -16,6 +17,8 @@ pub enum RuleReply {
     Refused(Refusal),
     // the text of the rule
     Text(Text),
+    // what splitting down the rule comes to
+    Split(SplitReply),
 }
 
 fn faulty(text: &[u8], why: Refusal) -> RuleReply

@@ -7,11 +7,12 @@ use words::Fault;
 use words::Words;
 use words::is;
 
-// The text of a rule that is read is what follows in the line.
+// The text of a rule that is read is what follows in the line, and so are the numbers of a split.
 #[derive(Clone, Copy)]
 pub enum RuleCommand {
     Read,
     Write,
+    Split,
 }
 
 fn read_verb(words: &mut Words) -> Result<RuleCommand, Fault>
@@ -25,6 +26,8 @@ fn read_verb(words: &mut Words) -> Result<RuleCommand, Fault>
         Ok(RuleCommand::Read)
     } else if is(word, "write") {
         Ok(RuleCommand::Write)
+    } else if is(word, "split") {
+        Ok(RuleCommand::Split)
     } else {
         Err(Fault {
             place,
@@ -43,6 +46,7 @@ pub fn read(words: &mut Words) -> Result<RuleCommand, Fault>
             words.end()?;
             Ok(RuleCommand::Write)
         }
+        RuleCommand::Split => Ok(RuleCommand::Split),
     }
 }
 

@@ -5,6 +5,7 @@ use refusals::RefusalDisplay;
 use rules::Children;
 use rules::Entry;
 use rules::Table;
+use script_gates::SplitReplyDisplay;
 use std::fmt;
 
 // A byte that is no printable ASCII is shown as `?`.
@@ -124,6 +125,7 @@ pub impl fmt::Display for RuleReply as RuleReplyDisplay {
                 write!(f, "text ")?;
                 write_bytes(f, text.as_slice())
             }
+            RuleReply::Split(reply) => write!(f, "{reply}"),
         }
     }
 }

@@ -59,7 +59,7 @@ impl Expected {
             Expected::Kind => Some("residue or circle"),
             Expected::Operation => Some("add, multiply or divide"),
             Expected::KindVerb => Some("set, test, multiply, neutral, key or power"),
-            Expected::RuleVerb => Some("read or write"),
+            Expected::RuleVerb => Some("read, write or split"),
             Expected::GateVerb => Some("split, complete or check"),
             Expected::Number => Some("a number from 0 to 4294967295"),
             Expected::Byte => Some("a number from 0 to 255"),
