@@ -95,11 +95,6 @@ impl<'a> Words<'a> {
         Ok(values)
     }
 
-    /// All numbers from this word to the last one.
-    fn numbers_from(&self, first: usize) -> Result<Vec<u64>, Fault> {
-        (first..=self.count()).map(|number| self.number(number)).collect()
-    }
-
     fn within(&self, number: usize, low: u64, high: u64, what: Wanted) -> Result<u64, Fault> {
         match decimal(self.word(number)) {
             Some(value) if low <= value && value <= high => Ok(value),
