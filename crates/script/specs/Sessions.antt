@@ -20,8 +20,6 @@ use Rattle.std.specs.declared.result.Result.the-variants.{Ok, Err}
 use Rattle.std.specs.Options.{mapped}
 use Rattle.refusals.specs.declared.Refusal.{Refusal}
 use Rattle.groups.specs.declared.residue.Residue as residues
-use Rattle.groups.specs.declared.checked.ResidueGroup.{ResidueGroup}
-use Rattle.groups.specs.declared.checked.CircleGroup.{CircleGroup}
 use Rattle.groups.specs.Residues.{residue, residue-elements, residue-model, residue-refusal}
 use Rattle.groups.specs.Circles.{Pair, pair, circle-elements, circle-model, circle-refusal}
 use Rattle.words.specs.declared.kind.Kind.{Kind}

@@ -1,7 +1,6 @@
 // What a command on gates is answered.
 ghost use mathlib.Core.Path.{_≡_};
 ghost use Prim.Native.Nat.{_<_, _≤_};
-ghost use lib.Dec.{T};
 ghost use lib.ListN.{length, take};
 ghost use Rattle.std.specs.Vec.{made};
 ghost use Rattle.script_gates.specs.GateReplies.{«scalar-at», Taken, Filled, «Filled-gate», Fills, Checks, Checked, Answers, «order-of», «Comes-to», Says};

@@ -4,8 +4,7 @@ use mathlib.Core.Bool.{Bool, true, false, cond}
 use Prim.Native.Nat.{ℕ}
 use lib.Dec.{eqb}
 use native.Mathlib.Omega.{arith}
-use Rattle.std.specs.declared.option.Option.the-variants.{Some, None}
-use Rattle.refusals.specs.declared.Refusal.{Refusal}
+use Rattle.std.specs.declared.option.Option.the-variants.{None}
 use Rattle.refusals.specs.declared.Refusal.the-variants.{OrdersDiffer}
 use Rattle.refusals.specs.Checks.{unless}
 use Rattle.kinds.specs.Kinds.{KindModel}

@@ -1,4 +1,5 @@
 -- What a set of leaf kinds answers to a command.
+--   question-reply m n x  the answer of the kind n of the set m to a question
 --   answer-to m c         the answer of the set m, over its meaning
 --   Residues, Circle      the numbers and bases of a residue group and of a circle group
 --   set-over r c          the supplied set over two groups: single, twin and mixed over each
