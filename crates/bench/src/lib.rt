@@ -1,4 +1,6 @@
 // The bench: makes, simulates, checks, keeps and forks releases for one rule and ring.
+#![tactic(auto)]
+
 pub mod bench;
 mod building;
 pub mod calls;

@@ -1,4 +1,6 @@
 // Checking transcripts: whether one is acceptable for a rule, and the keys that two of them give.
+#![tactic(auto)]
+
 mod equations;
 mod forks;
 mod gates;

@@ -1,4 +1,6 @@
 // What a rule asks of a tape and of keys, and which of its entries are real.
+#![tactic(auto)]
+
 mod choice;
 mod keys;
 mod marks;

@@ -1,4 +1,6 @@
 // How a program outside the library uses a bench: every chit goes to answer or to scrap, exactly once.
+#![tactic(auto)]
+
 ghost use Rattle.std.specs.Prelude.{◌≡◌, OnOk};
 ghost use Rattle.releases.specs.Transcripts.{Acceptable};
 ghost use Rattle.releases.specs.Calls.{Written};

@@ -1,4 +1,6 @@
 // Splitting a challenge down a whole rule.
+#![tactic(auto)]
+
 mod descend;
 mod gate;
 mod rows;

@@ -1,4 +1,6 @@
 // A few calls for programs in other languages, on numbers and byte slices: what the library is measured by.
+#![tactic(auto)]
+
 ghost use Rattle.std.specs.Prelude.{◌≡◌, List, length};
 ghost use Rattle.rules.specs.Tables.{Row};
 ghost use Rattle.rules.specs.Texts.{Means};

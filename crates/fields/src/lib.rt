@@ -1,4 +1,6 @@
 // Fields: scalars modulo a prime, and the interface that splitting a challenge stands on.
+#![tactic(auto)]
+
 mod field;
 mod modular;
 mod order;

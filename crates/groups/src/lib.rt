@@ -1,4 +1,6 @@
 // Groups of prime order, and powers in them.
+#![tactic(auto)]
+
 mod checked;
 mod circle_group;
 mod group;

@@ -1,4 +1,6 @@
 // Sets of leaf kinds.
+#![tactic(auto)]
+
 mod asked;
 mod coding;
 mod image;

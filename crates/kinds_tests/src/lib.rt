@@ -1,4 +1,5 @@
 // Leaf kinds at numbers worked out by hand: q = 11, the residues modulo 23 with g = 4 and h = 9, the circle modulo 43 with g = (2, 13) and h = (26, 23).
+#![tactic(auto)]
 
 #[cfg(test)]
 mod tests {

@@ -1,4 +1,6 @@
 // Making transcripts from tapes: the challenges of a rule's entries, then the commitments and the responses of its leaves.
+#![tactic(auto)]
+
 mod challenges;
 mod commitments;
 mod gate;

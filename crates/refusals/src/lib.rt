@@ -1,4 +1,6 @@
 // Why a call is refused: each case by its name, with the number and the place that a caller is told.
+#![tactic(auto)]
+
 ghost use Rattle.std.specs.Prelude.{◌≡◌};
 ghost use Rattle.refusals.specs.Numbers.{number_of, place_of, parameter_place, base_place};
 

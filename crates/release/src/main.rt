@@ -1,4 +1,6 @@
 // Runs a script: the file that the first argument names, or else the standard input.
+#![tactic(auto)]
+
 use anyhow::anyhow;
 use script::Session;
 use std::io::{BufWriter, Read, Write};

@@ -1,4 +1,6 @@
 // Releases by key holders: what they are, and what holds of every one. Each function's contract is a theorem, so that the check asks for its proof.
+#![tactic(auto)]
+
 ghost use Rattle.releases.specs.Runs.{AlwaysStands, RepliesOnce, SimulatedOnce, AnsweredOnce};
 ghost use Rattle.releases.specs.Theorems.{SatisfiedOnly, ForksSatisfy, SimulatedFits, FirstChosen, ChosenFits, AnsweredFits, OneSimulatedTape, OneHonestTape, «Words», ReadingSets};
 

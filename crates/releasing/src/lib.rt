@@ -1,4 +1,6 @@
 // Releases by a rule: committing, answering, simulating, accepting transcripts and extracting keys from forks.
+#![tactic(auto)]
+
 mod accepting;
 mod answering;
 mod committing;

@@ -1,4 +1,6 @@
 // Rings of public keys, and pairing a rule with a ring.
+#![tactic(auto)]
+
 mod line;
 mod lines;
 mod pairing;

@@ -1,4 +1,6 @@
 // Rows: lists of bounded length that are held without allocating.
+#![tactic(auto)]
+
 mod images;
 mod keys;
 mod tapes;

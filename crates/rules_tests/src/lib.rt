@@ -1,4 +1,5 @@
 // Rule texts read, refused and written, each expectation worked out by hand.
+#![tactic(auto)]
 
 #[cfg(test)]
 mod tests {

@@ -1,4 +1,6 @@
 // Scripts: commands, one a line, that are read, obeyed in order and answered.
+#![tactic(auto)]
+
 mod command;
 mod group_commands;
 mod questions;

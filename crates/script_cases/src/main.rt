@@ -1,4 +1,6 @@
 // Tries a table of cases in one session: each odd line of the input is a line of a script, the next one what is expected of it.
+#![tactic(auto)]
+
 use script::Session;
 use std::alloc::{AllocError, Global};
 use std::io::Read;

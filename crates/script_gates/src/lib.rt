@@ -1,4 +1,6 @@
 // Script commands on gates, and the split down a whole rule: how they are read, and what they are answered.
+#![tactic(auto)]
+
 mod answering;
 mod descending;
 mod gate;

@@ -1,4 +1,6 @@
 // Script commands on the leaf kinds of the supplied set: how they are read, and what they are answered.
+#![tactic(auto)]
+
 mod answering;
 mod reading;
 

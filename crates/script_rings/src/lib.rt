@@ -1,4 +1,6 @@
 // Script commands on rings: how they are read, and what they are answered.
+#![tactic(auto)]
+
 mod answering;
 mod changing;
 mod giving;

@@ -1,4 +1,6 @@
 // Script commands on rules: how they are read, and what they are answered.
+#![tactic(auto)]
+
 mod answering;
 mod copying;
 mod reading;

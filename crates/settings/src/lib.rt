@@ -1,4 +1,6 @@
 // A rule paired with its ring, as the calls of a bench go through it.
+#![tactic(auto)]
+
 mod access;
 mod building;
 mod filling;

@@ -1,4 +1,6 @@
 // Splitting the challenge of a gate over its children, and what holds of every split.
+#![tactic(auto)]
+
 mod compare;
 mod gate;
 mod rows;

@@ -1,4 +1,6 @@
 // Tests of splitting over the scalars: worked gates, and every gate at a small order, against Lagrange's formula.
+#![tactic(auto)]
+
 mod gates;
 mod lagrange;
 

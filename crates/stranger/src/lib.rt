@@ -1,4 +1,6 @@
 // A set of leaf kinds that stands on the interface alone, and joins of it with other sets.
+#![tactic(auto)]
+
 mod joined;
 mod maker;
 mod multiples;

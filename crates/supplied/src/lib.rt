@@ -1,4 +1,6 @@
 // The supplied set of leaf kinds: single, twin and mixed over a residue group, then the same over a circle group.
+#![tactic(auto)]
+
 ghost use Rattle.std.specs.Prelude.{◌≡◌, ◌∷◌, IfOk, ◌==◌, slice_index_or};
 ghost use Rattle.refusals.specs.Checks.{told, unless};
 ghost use Rattle.refusals.specs.declared.Refusal.TheVariants.{OrdersDiffer};

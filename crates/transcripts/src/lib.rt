@@ -1,4 +1,6 @@
 // Transcripts as words: N challenges, L commitments of four words, L responses of two.
+#![tactic(auto)]
+
 mod reading;
 mod writing;
 

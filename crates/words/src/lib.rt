@@ -1,4 +1,6 @@
 // The words of a script's lines, and what is wrong with a line.
+#![tactic(auto)]
+
 mod bytes;
 mod fault;
 mod kind;
