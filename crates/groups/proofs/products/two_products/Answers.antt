@@ -1,8 +1,8 @@
 use Rattle.std.proofs.Common.{◌*◌, ◌≤◌, le_trans, mul-le-mul, arith}
 use Rattle.groups.proofs.products.two_products.Goals as goal
 
-pub overflow-add-result : goal.overflow-add-result
-overflow-add-result c =
+pub overflow_add-result : goal.overflow_add-result
+overflow_add-result c =
     let p = c.args.p in
     let top = c.requires.0.1 in
     let le = c.requires.1 in

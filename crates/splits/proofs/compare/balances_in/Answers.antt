@@ -8,13 +8,13 @@ pub returns : goal.returns
 returns g c =
     let m = g.F.Field.model c.args.field.now in
     let children = c.args.children.now in
-    let expected = c.split-simulated.new.children in
+    let expected = c.split_simulated.new.children in
     let own = c.args.own in
     let k = c.args.k in
-    let copied = c.copy-from-slice.ensures.after in
-    let n = length c.copy-from-slice.new.self in (
-      (λ t. subst (Balanced m k own) (differing_none c.differing.ensures.count (eqb→eq c.differing.result 0 t)) c.split-simulated.ensures.balanced),
+    let copied = c.copy_from_slice.ensures.after in
+    let n = length c.copy_from_slice.new.self in (
+      (λ t. subst (Balanced m k own) (differing_none c.differing.ensures.count (eqb→eq c.differing.result 0 t)) c.split_simulated.ensures.balanced),
       (λ b.
-          let same : children ≡ expected = c.split-simulated.ensures.only children (ap length (sym copied)) b (subst (AgreeFirst m (n - k) children) (sym copied) (λ j l. refl)) in
+          let same : children ≡ expected = c.split_simulated.ensures.only children (ap length (sym copied)) b (subst (AgreeFirst m (n - k) children) (sym copied) (λ j l. refl)) in
           subst (λ r. T (eqb r 0)) (sym (differing_self c.differing.ensures.count (sym same))) (eqb_refl 0)),
     )

@@ -14,7 +14,7 @@ loop-i-preserved c =
     let n = c.loop-i.end in
     let b = get_or w i 0 in
     let low : cond (is_blank b) n (i + 1) ≤ i + 1 = one_of (is_blank b) n (i + 1) (i + 1) (omega arith) (omega arith) in
-    let next = sym c.ink-with-end.ensures in (
+    let next = sym c.ink_with-end.ensures in (
       omega (arith, next, low),
       c.loop-i.invariant.1 ∙ at_drop_more (ink_end i n) w i 0 c.loop-i-test.true ∙ ap (λ (m : ℕ). ink_end (i + 1) m (drop (i + 1) w)) next,
     )

@@ -8,6 +8,6 @@ use Rattle.words.proofs.bytes.is.Goals as goal
 pub returns : goal.returns
 returns c =
     let word = c.args.word.now in
-    let bytes = c.as-bytes.result.now in
+    let bytes = c.as_bytes.result.now in
     same_from_decides c.eq.result (same word bytes) (slice_eq-Decides Decides-eqb word bytes c.eq.result c.eq.ensures) (same_decides word bytes)
-    ∙ ap (same word) c.as-bytes.ensures.value
+    ∙ ap (same word) c.as_bytes.ensures.value

@@ -25,8 +25,8 @@ loop-newer-init c =
       ap (λ x. x % q) (mul_comm a d),
     )
 
-pub euclid-step-next-requires : goal.euclid-step-next-requires
-euclid-step-next-requires c =
+pub euclid_step-next-requires : goal.euclid_step-next-requires
+euclid_step-next-requires c =
     let inv = c.loop-newer.invariant in
     (omega (arith, c.loop-newer-test.true, c.value.ensures), (inv.0, inv.1))
 
@@ -40,14 +40,14 @@ loop-newer-preserved c =
     let inv = c.loop-newer.invariant in
     let older = c.loop-newer.older in
     let newer = c.loop-newer.newer in
-    let step = c.euclid-step-next.ensures in
+    let step = c.euclid_step-next.ensures in
     let some : 0 < newer.0.0 = omega (arith, c.loop-newer-test.true, c.value.ensures) in (
       inv.1,
       subst (λ x. x < q) (sym step.factor) (mod-lt _ pos),
       some,
       subst (λ x. Coprime newer.0.0 x) (sym step.remainder) (coprime_step older.0.0 newer.0.0 inv.3),
       inv.5,
-      subst (λ x. Factor q d a x c.euclid-step-next.result.1.0) (sym step.remainder)
+      subst (λ x. Factor q d a x c.euclid_step-next.result.1.0) (sym step.remainder)
           (subst (λ x. Factor q d a (older.0.0 % newer.0.0) x) (sym step.factor)
           (factor_step q d a older.0.0 older.1.0 newer.0.0 newer.1.0 pos inv.4 inv.5)),
     )

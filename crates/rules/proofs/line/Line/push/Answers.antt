@@ -7,8 +7,11 @@ use Rattle.rules.proofs.line.Line.push.Goals as goal
 pub bounds-self-self : goal.bounds-self-self
 bounds-self-self c = omega (arith, written_length c.args.self.now)
 
-pub invariant-of-self : goal.invariant-of-self
-invariant-of-self c = (length-set c.args.self.now.bytes c.args.self.now.len c.args.byte ∙ c.args.self.now.long, (omega (arith, written_length c.args.self.now), tt))
+pub invariant_of-self : goal.invariant_of-self
+invariant_of-self c = record {
+  long = length-set c.args.self.now.bytes c.args.self.now.len c.args.byte ∙ c.args.self.now.long;
+  within = omega (arith, written_length c.args.self.now);
+}
 
 pub returns : goal.returns
 unfolding written

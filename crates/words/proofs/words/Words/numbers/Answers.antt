@@ -15,40 +15,40 @@ loop-i-init g c =
       ap (λ n. numbers_at n place rest) all ∙ sym (prefixed_none (numbers_at (g.row.N - 0) place rest)),
     )
 
-pub returns-in-err-all : goal.returns-in-err-all
-returns-in-err-all g c =
+pub returns-in_err-all : goal.returns-in_err-all
+returns-in_err-all g c =
     let i = c.loop-i.i in
     let one : g.row.N - i ≡ suc (g.row.N - (i + 1)) = omega arith in
-    let p = err_from_is_err_and c.from-residual.result c.from-residual.ensures.1 in
+    let p = err_from_is_err_and c.from_residual.result c.from_residual.ensures.1 in
     let stop =
-    numbers_stop (take i c.loop-i.all) (g.row.N - i) c.loop-i.self.place c.loop-i.self.rest.now (g.row.N - (i + 1)) c.in-err-all.field-0.0 one
-    (sym c.number.ensures.value ∙ c.in-err-all.was) in
+    numbers_stop (take i c.loop-i.all) (g.row.N - i) c.loop-i.self.place c.loop-i.self.rest.now (g.row.N - (i + 1)) c.in_err-all.field-0.0 one
+    (sym c.number.ensures.value ∙ c.in_err-all.was) in
     p.1 ∙ ap Err p.2 ∙ sym (c.loop-i.invariant.1 ∙ stop)
 
 pub loop-i-preserved : goal.loop-i-preserved
 loop-i-preserved g c =
     let i = c.loop-i.i in
     let all = c.loop-i.all in
-    let x = c.in-ok-all.field-0 in
+    let x = c.in_ok-all.field-0 in
     let inside : i < length all = omega arith in
     let one : g.row.N - i ≡ suc (g.row.N - (i + 1)) = omega arith in
     let left : ℕ → List ℕ → Result (List ℕ) Fault = λ place rest. prefixed (take (i + 1) (set all i x)) (numbers_at (g.row.N - (i + 1)) place rest) in
     let place = c.loop-i.self.place in
     let rest = c.loop-i.self.rest.now in (
       length-set all i x ∙ c.loop-i.invariant.0,
-      c.loop-i.invariant.1 ∙ numbers_more (take i all) (g.row.N - i) place rest (g.row.N - (i + 1)) x one (sym c.number.ensures.value ∙ c.in-ok-all.was)
+      c.loop-i.invariant.1 ∙ numbers_more (take i all) (g.row.N - i) place rest (g.row.N - (i + 1)) x one (sym c.number.ensures.value ∙ c.in_ok-all.was)
           ∙ ap (λ xs. prefixed xs (numbers_at (g.row.N - (i + 1)) (following place) (after_word rest))) (sym (take_more_set all i x inside))
           ∙ ap (λ p. left p (after_word rest)) (sym c.number.ensures.counted) ∙ ap (left c.number.new.self.place) (sym c.number.ensures.after),
     )
 
-pub returns-in-err-end : goal.returns-in-err-end
-returns-in-err-end g c =
+pub returns-in_err-end : goal.returns-in_err-end
+returns-in_err-end g c =
     let i = c.loop-i.i in
     let none : g.row.N - i ≡ 0 = omega arith in
-    let p = err_from_is_err_and c.from-residual-in-err-end.result c.from-residual-in-err-end.ensures.1 in
+    let p = err_from_is_err_and c.from_residual-in_err-end.result c.from_residual-in_err-end.ensures.1 in
     let stop =
-    numbers_unended (take i c.loop-i.all) (g.row.N - i) c.loop-i.self.place c.loop-i.self.rest.now c.in-err-end.field-0.0 none
-    (sym c.end.ensures ∙ c.in-err-end.was) in
+    numbers_unended (take i c.loop-i.all) (g.row.N - i) c.loop-i.self.place c.loop-i.self.rest.now c.in_err-end.field-0.0 none
+    (sym c.end.ensures ∙ c.in_err-end.was) in
     p.1 ∙ ap Err p.2 ∙ sym (c.loop-i.invariant.1 ∙ stop)
 
 pub returns : goal.returns
@@ -57,5 +57,5 @@ returns g c =
     let all = c.loop-i.all in
     let none : g.row.N - i ≡ 0 = omega arith in
     let whole : length all ≤ i = omega arith in
-    sym (c.loop-i.invariant.1 ∙ numbers_ended (take i all) (g.row.N - i) c.loop-i.self.place c.loop-i.self.rest.now c.in-ok-end.field-0 none
-    (sym c.end.ensures ∙ c.in-ok-end.was) ∙ ap Ok (take_all i all whole))
+    sym (c.loop-i.invariant.1 ∙ numbers_ended (take i all) (g.row.N - i) c.loop-i.self.place c.loop-i.self.rest.now c.in_ok-end.field-0 none
+    (sym c.end.ensures ∙ c.in_ok-end.was) ∙ ap Ok (take_all i all whole))
