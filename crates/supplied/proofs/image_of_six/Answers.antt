@@ -4,8 +4,8 @@ use Rattle.supplied.proofs.image_of_six.Goals as goal
 
 pub returns : goal.returns
 returns c =
-    let made = c.in-ok-set.ensures in
+    let made = c.in_ok-set.ensures in
     record {
       refuses = made.refuses;
-      makes = c.key-image.ensures ∙ ap (λ (m : KindModel). (m.kind c.args.kind).image c.args.key) made.makes;
+      makes = c.key_image.ensures ∙ ap (λ (m : KindModel). (m.kind c.args.kind).image c.args.key) made.makes;
     }

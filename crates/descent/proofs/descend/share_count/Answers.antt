@@ -11,21 +11,21 @@ use Rattle.rules.proofs.Whole.{table_well_formed}
 use Rattle.descent.specs.Descents.{share_size, before, AtGate, Descends}
 use Rattle.descent.proofs.Shares.{before_none, before_more, gate_row, leaf_row}
 use Rattle.descent.proofs.descend.share_count.Goals as goal
-use Rattle.descent.proofs.descend.share_count.Goals.{in-Gate, in-default-entry}
+use Rattle.descent.proofs.descend.share_count.Goals.{in-Gate, in_default-entry}
 
 pub loop-i-init : goal.loop-i-init
 loop-i-init c = (sym (before_none (rows_in c.args.table.now)), omega arith)
 
-pub overflow-sub-count : goal.overflow-sub-count
-overflow-sub-count c =
+pub overflow_sub-count : goal.overflow_sub-count
+overflow_sub-count c =
     let es = rows_in c.args.table.now in
     let cs = children_of c.in-Gate.children in
     let k = c.in-Gate.threshold in
     let at = gate_row es c.loop-i.i k c.in-Gate.children c.in-Some.entry c.in-Some.ensures c.in-Gate.is in
     omega (arith, c.len.ensures, c.len-i-end.ensures.formed.fits c.loop-i.i k cs at)
 
-pub overflow-add-count : goal.overflow-add-count
-overflow-add-count c =
+pub overflow_add-count : goal.overflow_add-count
+overflow_add-count c =
     let es = rows_in c.args.table.now in
     let cs = children_of c.in-Gate.children in
     let k = c.in-Gate.threshold in
@@ -45,9 +45,9 @@ loop-i-preserved c =
             omega (arith, w.count-is, w.len.ensures, c.loop-i.invariant, before_more es i (node k cs) at),
             omega (arith, w.count-is, w.len.ensures, c.loop-i.invariant, c.len-i-end.ensures.formed.fits i k cs at),
           )
-      | in-default-entry w ↦
-          let n = w.in-default-entry.field-0 in
-          let b = w.in-default-entry.field-1 in
-          let at = leaf_row es i n b c.in-Some.entry c.in-Some.ensures w.in-default-entry.is in
+      | in_default-entry w ↦
+          let n = w.in_default-entry.field-0 in
+          let b = w.in_default-entry.field-1 in
+          let at = leaf_row es i n b c.in-Some.entry c.in-Some.ensures w.in_default-entry.is in
           (omega (arith, w.count-is, c.loop-i.invariant, before_more es i (leaf n b) at), omega (arith, w.count-is, c.loop-i.invariant))
     ]

@@ -13,7 +13,7 @@ use Rattle.descent.proofs.Shares.{before_none, before_more, share_room, gate_row
 use Rattle.descent.proofs.Moved.{any_default, to_end, part_members}
 use Rattle.descent.proofs.Going.{Passed, passed_none, passed_leaf, passed_gate, passed_all}
 use Rattle.descent.proofs.descend.split_down.Goals as goal
-use Rattle.descent.proofs.descend.split_down.Goals.{in-Gate, in-default-entry}
+use Rattle.descent.proofs.descend.split_down.Goals.{in-Gate, in_default-entry}
 
 pub loop-i-init : goal.loop-i-init
 loop-i-init g c =
@@ -39,40 +39,40 @@ returns g c =
     (passed_all m es (table_well_formed t) (get_or xs 0 m.zero) c.args.shares.now c.loop-i.challenges c.loop-i.i
     (omega (arith, c.loop-i-test.false, c.len-i-end.ensures.is)) c.loop-i.invariant.3)
 
-pub offset-bounds-shares-used : goal.offset-bounds-shares-used
-offset-bounds-shares-used g c =
+pub offset_bounds-shares-used : goal.offset_bounds-shares-used
+offset_bounds-shares-used g c =
     let at = gate_row (rows_in c.args.table.now) c.loop-i.i c.in-Gate.threshold c.in-Gate.children c.in-Some.entry c.in-Some.ensures c.in-Gate.is in
     let room = share_room (rows_in c.args.table.now) c.loop-i.i c.in-Gate.threshold (length c.args.shares.now) (children_of c.in-Gate.children) at
     (omega (arith, c.loop-i-test.true, c.len-i-end.ensures.is)) c.requires.sizes.1 in
     omega (arith, room, c.loop-i.invariant.1)
 
-pub slice-bounds-split-gate-count : goal.slice-bounds-split-gate-count
-slice-bounds-split-gate-count g c =
+pub slice_bounds-split_gate-count : goal.slice_bounds-split_gate-count
+slice_bounds-split_gate-count g c =
     let at = gate_row (rows_in c.args.table.now) c.loop-i.i c.in-Gate.threshold c.in-Gate.children c.in-Some.entry c.in-Some.ensures c.in-Gate.is in
     let room = share_room (rows_in c.args.table.now) c.loop-i.i c.in-Gate.threshold (length c.args.shares.now) (children_of c.in-Gate.children) at
     (omega (arith, c.loop-i-test.true, c.len-i-end.ensures.is)) c.requires.sizes.1 in
     omega (arith, room, c.loop-i.invariant.1)
 
-pub slice-bounds-split-gate-start : goal.slice-bounds-split-gate-start
-slice-bounds-split-gate-start g c =
+pub slice_bounds-split_gate-start : goal.slice_bounds-split_gate-start
+slice_bounds-split_gate-start g c =
     let at = gate_row (rows_in c.args.table.now) c.loop-i.i c.in-Gate.threshold c.in-Gate.children c.in-Some.entry c.in-Some.ensures c.in-Gate.is in
     let room = share_room (rows_in c.args.table.now) c.loop-i.i c.in-Gate.threshold (length c.args.shares.now) (children_of c.in-Gate.children) at
     (omega (arith, c.loop-i-test.true, c.len-i-end.ensures.is)) c.requires.sizes.1 in
     omega (arith, room, c.loop-i.invariant.1)
 
-pub overflow-sub-used : goal.overflow-sub-used
-overflow-sub-used g c =
+pub overflow_sub-used : goal.overflow_sub-used
+overflow_sub-used g c =
     let at = gate_row (rows_in c.args.table.now) c.loop-i.i c.in-Gate.threshold c.in-Gate.children c.in-Some.entry c.in-Some.ensures c.in-Gate.is in
     omega (arith, c.len.ensures, (table_well_formed c.args.table.now).fits c.loop-i.i c.in-Gate.threshold (children_of c.in-Gate.children) at)
 
-pub overflow-add-used : goal.overflow-add-used
-overflow-add-used g c =
+pub overflow_add-used : goal.overflow_add-used
+overflow_add-used g c =
     let at = gate_row (rows_in c.args.table.now) c.loop-i.i c.in-Gate.threshold c.in-Gate.children c.in-Some.entry c.in-Some.ensures c.in-Gate.is in
     let formed = table_well_formed c.args.table.now in
     omega (arith, c.len.ensures, formed.fits c.loop-i.i c.in-Gate.threshold (children_of c.in-Gate.children) at, c.loop-i.invariant.2, formed.few_rows, c.len-i-end.ensures.is)
 
-pub split-gate-requires : goal.split-gate-requires
-split-gate-requires g c =
+pub split_gate-requires : goal.split_gate-requires
+split_gate-requires g c =
     let m = g.F.Field.model c.args.field.now in
     let formed = table_well_formed c.args.table.now in
     let i = c.loop-i.i in
@@ -122,16 +122,16 @@ loop-i-preserved g c =
           let gate : AtGate m k cs (get_or xs i m.zero) (drop (before es i) ss) xs ys =
           subst (λ x. AtGate m k cs x (drop (before es i) ss) xs ys) own
           (subst (λ p. AtGate m k cs w.index-challenges-i.result p xs ys) part
-          (subst (λ ch. AtGate m k cs w.index-challenges-i.result (take (length ss - c.loop-i.used) (drop c.loop-i.used ss)) xs ch) (sym w.challenges-is) w.split-gate.ensures)) in (
+          (subst (λ ch. AtGate m k cs w.index-challenges-i.result (take (length ss - c.loop-i.used) (drop c.loop-i.used ss)) xs ch) (sym w.challenges-is) w.split_gate.ensures)) in (
             long ∙ inv.0,
             omega (arith, w.used-is, w.len.ensures, inv.1, more),
             omega (arith, w.used-is, w.len.ensures, inv.2, formed.fits i k cs at),
             passed_gate m es formed first ss i k cs at xs ys long gate inv.3,
           )
-      | in-default-entry w ↦
-          let n = w.in-default-entry.field-0 in
-          let b = w.in-default-entry.field-1 in
-          let at = leaf_row es i n b c.in-Some.entry c.in-Some.ensures w.in-default-entry.is in (
+      | in_default-entry w ↦
+          let n = w.in_default-entry.field-0 in
+          let b = w.in_default-entry.field-1 in
+          let at = leaf_row es i n b c.in-Some.entry c.in-Some.ensures w.in_default-entry.is in (
             long ∙ inv.0,
             omega (arith, w.used-is, inv.1, before_more es i (leaf n b) at),
             omega (arith, w.used-is, inv.2),

@@ -7,8 +7,8 @@ use Rattle.rules.specs.Views.{children_of}
 use Rattle.descent.proofs.Moved.{eight_length, eight_at}
 use Rattle.descent.proofs.gate.split_gate.Goals as goal
 
-pub split-gate-in-requires : goal.split-gate-in-requires
-split-gate-in-requires g c =
+pub split_gate_in-requires : goal.split_gate_in-requires
+split_gate_in-requires g c =
     let m = g.F.Field.model c.args.field.now in
     let n = c.len.result in
     let few : n ≤ 8 = omega (arith, c.len.ensures, c.requires.sizes) in

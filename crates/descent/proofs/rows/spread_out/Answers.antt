@@ -12,8 +12,8 @@ bounds-to-position g c =
     let t = taken (children_of c.args.children.now) c.loop-j.j c.in-Some.position 0 c.in-Some.ensures in
     omega (arith, c.requires.inside c.loop-j.j t.0, t.1, c.loop-j.invariant.0)
 
-pub offset-bounds-to-position : goal.offset-bounds-to-position
-offset-bounds-to-position g c =
+pub offset_bounds-to-position : goal.offset_bounds-to-position
+offset_bounds-to-position g c =
     let t = taken (children_of c.args.children.now) c.loop-j.j c.in-Some.position 0 c.in-Some.ensures in
     let h : c.in-Some.position < length c.loop-j.to = omega (arith, c.requires.inside c.loop-j.j t.0, t.1, c.loop-j.invariant.0) in
     search rules

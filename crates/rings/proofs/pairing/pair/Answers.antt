@@ -8,16 +8,16 @@ use Rattle.rings.specs.Rings.{lines_in}
 use Rattle.rings.specs.Pairings.{line_of, pair_refusal, paired}
 use Rattle.rings.proofs.Rows.{none_left, leaf_missing, leaf_refusal, leaf_paired, leaf_counted, gate_refusal, gate_paired, gate_counted}
 use Rattle.rings.proofs.pairing.pair.Goals as goal
-use Rattle.rings.proofs.pairing.pair.Goals.{in-Leaf+in-Some-find, in-default-entry}
+use Rattle.rings.proofs.pairing.pair.Goals.{in-Leaf+in-Some-find, in_default-entry}
 
-pub returns-in-default-find : goal.returns-in-default-find
+pub returns-in_default-find : goal.returns-in_default-find
 unfolding row_of
-returns-in-default-find c =
+returns-in_default-find c =
     let es = rows_in c.args.table.now in
     let ls = lines_in c.args.ring.now in
     let at : get_elem? es c.loop-i.i ≡ some (leaf c.in-Leaf.key c.in-Leaf.place) = c.in-Some.ensures ∙ ap (λ e. some (row_of e)) c.in-Leaf.is in
     record {
-      refuses = sym (c.loop-i.invariant.0 ∙ leaf_missing es ls c.loop-i.i c.in-Leaf.key c.in-Leaf.place at (sym c.in-default-find.ensures));
+      refuses = sym (c.loop-i.invariant.0 ∙ leaf_missing es ls c.loop-i.i c.in-Leaf.key c.in-Leaf.place at (sym c.in_default-find.ensures));
       pairs = tt;
     }
 
@@ -47,10 +47,10 @@ loop-i-preserved c =
             ap (λ ts. lines_in ts ++ paired (drop (i + 1) es) ls) w.lines-is ∙ ap (λ ts. ts ++ paired (drop (i + 1) es) ls) w.push.ensures.holds ∙ leaf_paired es ls i n b l (lines_in c.loop-i.lines) at found ∙ inv.1,
             let same = ap (λ ts. ts.len) w.lines-is in omega (arith, same, w.push.ensures.longer, leaf_counted es ls i n b at, inv.2),
           )
-      | in-default-entry w ↦
-          let k = w.in-default-entry.field-0 in
-          let cs = children_of w.in-default-entry.field-1 in
-          let at : get_elem? es i ≡ some (node k cs) = c.in-Some.ensures ∙ ap (λ e. some (row_of e)) w.in-default-entry.is in (
+      | in_default-entry w ↦
+          let k = w.in_default-entry.field-0 in
+          let cs = children_of w.in_default-entry.field-1 in
+          let at : get_elem? es i ≡ some (node k cs) = c.in-Some.ensures ∙ ap (λ e. some (row_of e)) w.in_default-entry.is in (
             inv.0 ∙ gate_refusal es ls i k cs at,
             ap (λ ts. lines_in ts ++ paired (drop (i + 1) es) ls) w.lines-is ∙ ap (λ r. lines_in c.loop-i.lines ++ r) (sym (gate_paired es ls i k cs at)) ∙ inv.1,
             let same = ap (λ ts. ts.len) w.lines-is in omega (arith, same, gate_counted es ls i k cs at, inv.2),

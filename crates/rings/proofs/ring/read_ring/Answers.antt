@@ -13,8 +13,8 @@ loop-i-preserved g c =
     let count = length s / 18 in
     let i = c.loop-i.i in
     let inv = c.loop-i.invariant in
-    let is = c.line-at-line.ensures in
-    let quiet : line_refusal m c.loop-i.last i (line_at s (18 * i)) ≡ None = ap (line_refusal m c.loop-i.last i) (sym is) ∙ sym c.in-default.ensures in (
+    let is = c.line_at-line.ensures in
+    let quiet : line_refusal m c.loop-i.last i (line_at s (18 * i)) ≡ None = ap (line_refusal m c.loop-i.last i) (sym is) ∙ sym c.in_default.ensures in (
       omega (arith, c.push.ensures.longer, inv.0),
       passed m s count i c.loop-i.last c.loop-i-test.true (lines_refusal m 0 0 (ring_lines s)) inv.1 quiet
           ∙ ap (λ l. lines_refusal m l.number (i + 1) (lines_from s (18 * (i + 1)) (count - (i + 1)))) (sym is),
@@ -29,6 +29,6 @@ returns-in-Err g c =
     let count = length s / 18 in
     let i = c.loop-i.i in
     let found : line_refusal m c.loop-i.last i (line_at s (18 * i)) ≡ Some c.in-Err.why =
-    ap (line_refusal m c.loop-i.last i) (sym c.line-at-line.ensures) ∙ sym c.in-Err.ensures in
+    ap (line_refusal m c.loop-i.last i) (sym c.line_at-line.ensures) ∙ sym c.in-Err.ensures in
     let none = refused m s count i c.loop-i.last c.loop-i-test.true (lines_refusal m 0 0 (ring_lines s)) c.in-Err.why c.loop-i.invariant.1 found in
     record { refuses = sym (is_whole m s (omega arith) (omega arith) (omega arith) ∙ none); reads = tt }

@@ -5,8 +5,8 @@ use Rattle.polynomials.proofs.Steps.{members_take}
 use Rattle.splits_tests.proofs.Reduced.{reduced}
 use Rattle.splits_tests.proofs.gates.holds.Goals as goal
 
-pub holds-in-requires : goal.holds-in-requires
-holds-in-requires c =
+pub holds_in-requires : goal.holds_in-requires
+holds_in-requires c =
     let q = c.args.field.now.q in
     let n = c.args.n in
     let all = c.scalars-given.result in

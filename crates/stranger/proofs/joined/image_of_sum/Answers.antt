@@ -6,6 +6,6 @@ pub returns : goal.returns
 returns g c v w =
     let set = c.args.set.now in
     let m = g.S.LeafKinds.meaning set in
-    c.image-product.ensures
-    ∙ ap₂ (m.kind c.args.kind).product c.key-image-first.ensures c.key-image-second.ensures
+    c.image_product.ensures
+    ∙ ap₂ (m.kind c.args.kind).product c.key_image-first.ensures c.key_image-second.ensures
     ∙ sym (sum_image m (g.met.S.LeafKinds.lawful set) c.args.kind c.args.v c.args.w v w)
