@@ -9,7 +9,7 @@ pub returns : goal.returns
 returns g c =
     let s = c.args.group.now in
     let why = fault c.args.place (Element c.args.kind) in
-    let is = c.ok-or.ensures.value ∙ ap (λ o. ok_or o why) c.from-words.ensures in
+    let is = c.ok_or.ensures.value ∙ ap (λ o. ok_or o why) c.from_words.ensures in
     record {
       value = is;
       member =

@@ -10,6 +10,6 @@ returns c =
     let q = c.args.scalars.now.q in (
       omega arith,
       omega arith,
-      subst (λ (x : Scalar). Checks q c.args.wanted x g c.in-ok-balanced.balanced) (scalar_is q g.place g.own c.in-ok-own.own c.in-ok-own.ensures)
-          c.in-ok-balanced.ensures,
+      subst (λ (x : Scalar). Checks q c.args.wanted x g c.in_ok-balanced.balanced) (scalar_is q g.place g.own c.in_ok-own.own c.in_ok-own.ensures)
+          c.in_ok-balanced.ensures,
     )

@@ -11,4 +11,4 @@ returns c =
     let cs = c.fill.new.children in
     let long : length (take n slots) ≡ n = length-take-le n slots (omega (arith, c.requires.0, g.within)) in
     let front : take n (cs ++ drop n slots) ≡ cs = take_at cs (drop n slots) n (c.fill.auto.children ∙ long) in
-    subst (FilledGate c.args.scalars.now.q c.args.own g) (sym front) c.in-ok-fill.ensures
+    subst (FilledGate c.args.scalars.now.q c.args.own g) (sym front) c.in_ok-fill.ensures

@@ -8,5 +8,5 @@ pub returns : goal.returns
 returns c =
     let g = c.args.gate.now in
     let q = c.args.scalars.now.q in
-    subst (λ (x : Scalar). FilledGate q x g (take g.len c.fill-front.new.slots)) (scalar_is q g.place g.own c.in-ok-own.own c.in-ok-own.ensures)
-    c.in-ok-fill-front.ensures
+    subst (λ (x : Scalar). FilledGate q x g (take g.len c.fill_front.new.slots)) (scalar_is q g.place g.own c.in_ok-own.own c.in_ok-own.ensures)
+    c.in_ok-fill_front.ensures

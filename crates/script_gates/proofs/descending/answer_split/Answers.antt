@@ -20,4 +20,4 @@ told es q c ns (Err why) long h = tt
 
 pub returns : goal.returns
 returns c =
-    told (rows_in c.args.table.now) _ _ _ c.split-modulo.result (front_long c.share-count-count.result c.read-numbers.new.to _ (omega arith) c.read-numbers.auto.to ∙ c.share-count-count.ensures) c.split-modulo.ensures
+    told (rows_in c.args.table.now) _ _ _ c.split_modulo.result (front_long c.share_count-count.result c.read_numbers.new.to _ (omega arith) c.read_numbers.auto.to ∙ c.share_count-count.ensures) c.split_modulo.ensures

@@ -5,4 +5,4 @@ use Rattle.script_rules.proofs.text.Text.copied.Goals as goal
 pub returns : goal.returns
 returns c =
     let text = c.args.text.now in
-    ap (take (length text)) c.copy-into.ensures ∙ take_at text (drop (length text) (replicate 240 0)) (length text) refl
+    ap (take (length text)) c.copy_into.ensures ∙ take_at text (drop (length text) (replicate 240 0)) (length text) refl
