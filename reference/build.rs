@@ -1,5 +1,5 @@
 //! With the feature `library`, links the static library that LEMONBILGE_STATICLIB names: the path of
-//! target/staticlib/libNAME.a. Without the feature there is nothing to do.
+//! out/libNAME.a, below the crate. Without the feature there is nothing to do.
 
 use std::env;
 use std::path::Path;

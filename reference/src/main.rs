@@ -17,7 +17,7 @@ reference vectors NUMBER COUNT [FOLDER]       a script of COUNT commands and its
                                               and stdout of FOLDER, or both on the standard output
 reference same NUMBER COUNT FOLDER            whether FOLDER's stdin and stdout are those that vectors writes
 reference cover NUMBER COUNT                  which replies and refusals such a script has
-reference compare NUMBER COUNT [PATH] [CARE]  runs PATH (target/bin/release) and this program on random scripts;
+reference compare NUMBER COUNT [PATH] [CARE]  runs PATH (crates/release/out/release) and this program on random scripts;
                                               CARE is exact, words (where none is given) or lines
 reference speed                               takes times
 The word `arithmetic` at the end leaves out all commands but those on groups, elements and scalars.
@@ -107,7 +107,7 @@ fn show(failure: &Failure) -> io::Result<()> {
 }
 
 fn compare(arguments: &Arguments) -> io::Result<bool> {
-    let path = arguments.path.as_deref().unwrap_or("target/bin/release");
+    let path = arguments.path.as_deref().unwrap_or("crates/release/out/release");
     let comparison = Comparison { path, care: arguments.care, scope: arguments.scope };
     let outcome = comparison.run(arguments.number, arguments.count)?;
     println!("{} commands, {} lines of output without a difference", outcome.commands, outcome.replies);

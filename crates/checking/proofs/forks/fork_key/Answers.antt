@@ -4,8 +4,8 @@ use Rattle.fields.specs.ScalarLaws.{scalar_laws}
 use Rattle.releases.proofs.Arithmetic.{minus_apart}
 use Rattle.checking.proofs.forks.fork_key.Goals as goal
 
-pub divide-pair-requires : goal.divide-pair-requires
-divide-pair-requires c =
+pub divide_pair-requires : goal.divide_pair-requires
+divide_pair-requires c =
     let f = c.args.field.now in
     let q = f.q in
     let pos : 0 < q = omega (arith, f.low) in

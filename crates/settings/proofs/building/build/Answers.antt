@@ -12,13 +12,13 @@ use Rattle.settings.proofs.building.build.Goals as goal
 pub returns : goal.returns
 returns g c =
     let m = g.S.LeafKinds.meaning c.args.set.now in
-    let rows = rows_in c.in-ok-table.table in
+    let rows = rows_in c.in_ok-table.table in
     let ring = c.args.ring.now in
-    let lines = c.in-ok-ring.ensures.reads in
-    let whole = sym c.in-ok-ring.ensures.refuses in
-    let known = sym (c.in-ok-lines.ensures.refuses ∙ ap (pair_refusal rows) lines) in
-    let listed = c.with-lines.ensures ∙ ap (entries rows) (c.in-ok-lines.ensures.pairs ∙ ap (paired rows) lines) in
-    let read = c.in-ok-table.ensures in
+    let lines = c.in_ok-ring.ensures.reads in
+    let whole = sym c.in_ok-ring.ensures.refuses in
+    let known = sym (c.in_ok-lines.ensures.refuses ∙ ap (pair_refusal rows) lines) in
+    let listed = c.with_lines.ensures ∙ ap (entries rows) (c.in_ok-lines.ensures.pairs ∙ ap (paired rows) lines) in
+    let read = c.in_ok-table.ensures in
     record {
       built = record { rows = rows; means = read.means; whole = whole; known = known; listed = listed };
       setting = subst (Setting m) (sym listed) (reading_sets m (g.met.S.LeafKinds.lawful c.args.set.now) rows read.well_formed ring whole known);

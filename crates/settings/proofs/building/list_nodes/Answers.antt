@@ -28,12 +28,12 @@ loop-i-preserved c =
           let rest = entries (drop (i + 1) rows) (drop (j + 1) lines) in
           let same = ap (λ ns. ns.len) w.nodes-is in (
             ap (λ ns. listing ns ++ entries (drop (i + 1) rows) (drop c.match-entry-2.leaf lines)) w.nodes-is
-                ∙ ap (λ n. listing w.push.new.self ++ entries (drop (i + 1) rows) (drop n lines)) w.leaf_is
-                ∙ ap (λ es. es ++ rest) (w.push.ensures.holds ∙ ap (λ e. listing c.loop-i.nodes ++ e ∷ []) w.leaf-node.ensures)
+                ∙ ap (λ n. listing w.push.new.self ++ entries (drop (i + 1) rows) (drop n lines)) w.leaf-is
+                ∙ ap (λ es. es ++ rest) (w.push.ensures.holds ∙ ap (λ e. listing c.loop-i.nodes ++ e ∷ []) w.leaf_node.ensures)
                 ∙ append_assoc (listing c.loop-i.nodes) (leaf_of w.get.result ∷ []) rest
                 ∙ ap (λ es. listing c.loop-i.nodes ++ es) (sym step) ∙ inv.0,
             omega (arith, same, w.push.ensures.longer, inv.1),
-            omega (arith, w.leaf_is, inv.2),
+            omega (arith, w.leaf-is, inv.2),
           )
       | in-Gate w ↦
           let k = w.in-Gate.threshold in
@@ -43,12 +43,12 @@ loop-i-preserved c =
           let rest = entries (drop (i + 1) rows) (drop j lines) in
           let same = ap (λ ns. ns.len) w.nodes-is in (
             ap (λ ns. listing ns ++ entries (drop (i + 1) rows) (drop c.match-entry-2.leaf lines)) w.nodes-is
-                ∙ ap (λ n. listing w.push-in-Gate.new.self ++ entries (drop (i + 1) rows) (drop n lines)) w.leaf_is
+                ∙ ap (λ n. listing w.push-in-Gate.new.self ++ entries (drop (i + 1) rows) (drop n lines)) w.leaf-is
                 ∙ ap (λ es. es ++ rest) (w.push-in-Gate.ensures.holds ∙ ap (λ e. listing c.loop-i.nodes ++ e ∷ []) (gate_entry k w.in-Gate.children))
                 ∙ append_assoc (listing c.loop-i.nodes) (gate k cs ∷ []) rest
                 ∙ ap (λ es. listing c.loop-i.nodes ++ es) (sym step) ∙ inv.0,
             omega (arith, same, w.push-in-Gate.ensures.longer, inv.1),
-            omega (arith, w.leaf_is, inv.2),
+            omega (arith, w.leaf-is, inv.2),
           )
     ]
 

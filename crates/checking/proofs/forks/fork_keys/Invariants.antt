@@ -12,5 +12,5 @@ invariant-loop-i g l =
     let rule = rule_in l.rule in
     (l.leaf ≡ number rule l.i) × (l.leaf ≤ l.i) × (length l.keys ≡ length l.initial.keys)
     × ((k : ℕ) → k < l.i → AtLeaf rule (λ i kind s.
-    ForkedKey q (get_or l.challenges i (scalar 0)) (get_or l.other-challenges i (scalar 0))
-    (get_or l.responses (number rule i) (scalar 0, scalar 0)) (get_or l.other-responses (number rule i) (scalar 0, scalar 0)) (get_or l.keys (number rule i) None)) k)
+    ForkedKey q (get_or l.challenges i (scalar 0)) (get_or l.other_challenges i (scalar 0))
+    (get_or l.responses (number rule i) (scalar 0, scalar 0)) (get_or l.other_responses (number rule i) (scalar 0, scalar 0)) (get_or l.keys (number rule i) None)) k)

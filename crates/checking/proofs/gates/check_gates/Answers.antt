@@ -6,10 +6,10 @@ use Rattle.splits.specs.Gates.{Balanced}
 use Rattle.settings.specs.Rules.{rule_in}
 use Rattle.checking.proofs.Steps.{each_clear, each_told, leaf_entry, gate_entry, at_gate, no_gate}
 use Rattle.checking.proofs.gates.check_gates.Goals as goal
-use Rattle.checking.proofs.gates.check_gates.Goals.{in-Gate+else-not-gate-balances, in-default-node}
+use Rattle.checking.proofs.gates.check_gates.Goals.{in-Gate+else-not-gate_balances, in_default-node}
 
-pub gate-balances-requires : goal.gate-balances-requires
-gate-balances-requires g c =
+pub gate_balances-requires : goal.gate_balances-requires
+gate_balances-requires g c =
     let rule = rule_in c.args.rule.now in
     let ch = c.args.challenges.now in
     let i = c.loop-i.i in
@@ -39,22 +39,22 @@ loop-i-preserved g c =
     let ch : ℕ → Scalar = λ i. get_or c.args.challenges.now i (scalar 0) in
     let P : ℕ → ℕ → List ℕ → Type 0 = λ i n children. Balanced (scalars_model q) n (ch i) (map ch children) in
     elim c.match-node-2.branch [
-      | in-Gate+else-not-gate-balances w ↦
+      | in-Gate+else-not-gate_balances w ↦
           let k = w.in-Gate.threshold in
           let cs = w.in-Gate.children in
           let at = gate_entry rule i k cs c.in-Some.node c.in-Some.ensures w.in-Gate.is in
           below_more _ _ c.loop-i.invariant
           (at_gate rule P i k (children_of cs) at
-          (subst (λ q. Balanced (scalars_model q) k (ch i) (map ch (children_of cs))) (c.known-field.ensures ∙ c.order.ensures) (w.if-not-gate-balances.ensures.0 tt)))
-      | in-default-node w ↦
-          let kind = w.in-default-node.field-0 in
-          let s = w.in-default-node.field-1 in
-          let at = leaf_entry rule i kind s c.in-Some.node c.in-Some.ensures w.in-default-node.is in
+          (subst (λ q. Balanced (scalars_model q) k (ch i) (map ch (children_of cs))) (c.known-field.ensures ∙ c.order.ensures) (w.if-not-gate_balances.ensures.0 tt)))
+      | in_default-node w ↦
+          let kind = w.in_default-node.field-0 in
+          let s = w.in_default-node.field-1 in
+          let at = leaf_entry rule i kind s c.in-Some.node c.in-Some.ensures w.in_default-node.is in
           below_more _ _ c.loop-i.invariant (no_gate rule P i kind s at)
     ]
 
-pub returns-then-not-gate-balances : goal.returns-then-not-gate-balances
-returns-then-not-gate-balances g c =
+pub returns-then-not-gate_balances : goal.returns-then-not-gate_balances
+returns-then-not-gate_balances g c =
     let rule = rule_in c.args.rule.now in
     let i = c.loop-i.i in
     let k = c.in-Gate.threshold in
@@ -62,7 +62,7 @@ returns-then-not-gate-balances g c =
     let ch : ℕ → Scalar = λ i. get_or c.args.challenges.now i (scalar 0) in
     let at = gate_entry rule i k cs c.in-Some.node c.in-Some.ensures c.in-Gate.is in
     each_told i _ (omega (arith, c.loop-i-test.true, c.len-i-end.ensures.is)) c.loop-i.invariant
-    (λ f. c.if-not-gate-balances.ensures.1
+    (λ f. c.if-not-gate_balances.ensures.1
     (subst (λ q. Balanced (scalars_model q) k (ch i) (map ch (children_of cs))) (sym (c.known-field.ensures ∙ c.order.ensures)) (f k (children_of cs) at)))
     refl
 

@@ -8,36 +8,36 @@ use Rattle.checking.proofs.Steps.{each_refused, each_then}
 use Rattle.checking.proofs.Fitting.{scalars_fit, images_fit, keys_fit}
 use Rattle.checking.proofs.transcript.check_transcript.Goals as goal
 
-pub returns-in-err-check-words : goal.returns-in-err-check-words
-returns-in-err-check-words g c =
+pub returns-in_err-check_words : goal.returns-in_err-check_words
+returns-in_err-check_words g c =
     let m = g.S.LeafKinds.meaning c.args.set.now in
     let rule = rule_in c.args.rule.now in
     let t = transcript c.args.challenges.now c.args.commitments.now c.args.responses.now in
-    let p = err_from_is_err_and c.from-residual.result c.from-residual.ensures.1 in
-    rw (p.1, p.2) (each_refused (GatesChecked m rule (challenge t) (EquationsChecked m rule t Clear)) _ c.in-err-check-words.ensures)
+    let p = err_from_is_err_and c.from_residual.result c.from_residual.ensures.1 in
+    rw (p.1, p.2) (each_refused (GatesChecked m rule (challenge t) (EquationsChecked m rule t Clear)) _ c.in_err-check_words.ensures)
 
-pub check-gates-requires : goal.check-gates-requires
-check-gates-requires g c =
+pub check_gates-requires : goal.check_gates-requires
+check_gates-requires g c =
     let m = g.S.LeafKinds.meaning c.args.set.now in
     let t = transcript c.args.challenges.now c.args.commitments.now c.args.responses.now in
     record {
       setting = c.requires.setting;
       long = c.requires.long.0;
-      scalars = scalars_fit m (rule_in c.args.rule.now) t (all_passed c.in-ok-check-words.ensures).0;
+      scalars = scalars_fit m (rule_in c.args.rule.now) t (all_passed c.in_ok-check_words.ensures).0;
     }
 
-pub returns-in-err-check-gates : goal.returns-in-err-check-gates
-returns-in-err-check-gates g c =
+pub returns-in_err-check_gates : goal.returns-in_err-check_gates
+returns-in_err-check_gates g c =
     let m = g.S.LeafKinds.meaning c.args.set.now in
     let rule = rule_in c.args.rule.now in
     let t = transcript c.args.challenges.now c.args.commitments.now c.args.responses.now in
-    let p = err_from_is_err_and c.from-residual-in-err-check-gates.result c.from-residual-in-err-check-gates.ensures.1 in
-    rw (p.1, p.2) (each_then (GatesChecked m rule (challenge t) (EquationsChecked m rule t Clear)) _ c.in-ok-check-words.ensures (each_refused (EquationsChecked m rule t Clear) _ c.in-err-check-gates.ensures))
+    let p = err_from_is_err_and c.from_residual-in_err-check_gates.result c.from_residual-in_err-check_gates.ensures.1 in
+    rw (p.1, p.2) (each_then (GatesChecked m rule (challenge t) (EquationsChecked m rule t Clear)) _ c.in_ok-check_words.ensures (each_refused (EquationsChecked m rule t Clear) _ c.in_err-check_gates.ensures))
 
-pub check-equations-requires : goal.check-equations-requires
-check-equations-requires g c =
+pub check_equations-requires : goal.check_equations-requires
+check_equations-requires g c =
     let m = g.S.LeafKinds.meaning c.args.set.now in
     let rule = rule_in c.args.rule.now in
     let t = transcript c.args.challenges.now c.args.commitments.now c.args.responses.now in
-    let fits = (all_passed c.in-ok-check-words.ensures).0 in
+    let fits = (all_passed c.in_ok-check_words.ensures).0 in
     record { setting = c.requires.setting; long = c.requires.long; images = images_fit m rule t fits; keys = keys_fit m rule t fits }

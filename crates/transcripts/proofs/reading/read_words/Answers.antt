@@ -9,7 +9,7 @@ returns c =
     let n = length c.args.challenges.now in
     let l = length c.args.commitments.now in
     record {
-      challenges = c.read-challenges.ensures;
-      commitments = c.read-images.ensures ∙ ap (images_in l) (between_to_end ws n (length ws) (omega arith));
-      responses = c.read-keys.ensures ∙ ap (keys_in (length c.args.responses.now)) (between_to_end ws (n + 4 * l) (length ws) (omega arith));
+      challenges = c.read_challenges.ensures;
+      commitments = c.read_images.ensures ∙ ap (images_in l) (between_to_end ws n (length ws) (omega arith));
+      responses = c.read_keys.ensures ∙ ap (keys_in (length c.args.responses.now)) (between_to_end ws (n + 4 * l) (length ws) (omega arith));
     }

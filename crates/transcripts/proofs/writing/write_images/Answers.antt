@@ -10,9 +10,9 @@ pub loop-i-preserved : goal.loop-i-preserved
 loop-i-preserved c =
     let xs = c.loop-i.out in
     let i = c.loop-i.i in
-    let after = c.copy-from-slice.ensures.after in (
-      same_len_mid (4 * i) _ xs c.copy-from-slice.new.self c.copy-from-slice.ensures.len ∙ c.loop-i.invariant.0,
-      images_written c.args.images.now i _ xs c.copy-from-slice.new.self c.loop-i-test.true after (omega (arith, c.loop-i.invariant.0, c.requires)) c.loop-i.invariant.1,
+    let after = c.copy_from_slice.ensures.after in (
+      same_len_mid (4 * i) _ xs c.copy_from_slice.new.self c.copy_from_slice.ensures.len ∙ c.loop-i.invariant.0,
+      images_written c.args.images.now i _ xs c.copy_from_slice.new.self c.loop-i-test.true after (omega (arith, c.loop-i.invariant.0, c.requires)) c.loop-i.invariant.1,
     )
 
 pub returns : goal.returns

@@ -10,7 +10,7 @@ use Rattle.releases.proofs.Laid.{before_none}
 use Rattle.settings.specs.Rules.{rule_in}
 use Rattle.checking.proofs.Steps.{each_clear, each_told, leaf_entry, gate_entry, at_leaf, no_leaf, next_leaf, next_gate, leaf_inside}
 use Rattle.checking.proofs.words.check_responses.Goals as goal
-use Rattle.checking.proofs.words.check_responses.Goals.{in-Leaf+else-not-is-key, in-default-node}
+use Rattle.checking.proofs.words.check_responses.Goals.{in-Leaf+else-not-is_key, in_default-node}
 
 pub loop-i-init : goal.loop-i-init
 loop-i-init g c = (sym (before_none to_leaf (rule_in c.args.rule.now)), omega arith, λ k h. absurd (omega arith))
@@ -30,20 +30,20 @@ loop-i-preserved g c =
     let inv = c.loop-i.invariant in
     let P : ℕ → ℕ → Image → Type 0 = λ i kind s. IsKey m kind (get_or c.args.responses.now (number rule i) (scalar 0, scalar 0)) in
     elim c.match-node-2.branch [
-      | in-Leaf+else-not-is-key w ↦
+      | in-Leaf+else-not-is_key w ↦
           let kind = w.in-Leaf.kind in
           let s = w.in-Leaf.statement in
           let at = leaf_entry rule i kind s c.in-Some.node c.in-Some.ensures w.in-Leaf.is in
-          (next_leaf rule i n inv.0 kind s at _ w.leaf_is, omega (arith, w.leaf_is, inv.1), below_more _ _ inv.2 (at_leaf rule P i kind s at (subst (λ n. IsKey m kind (get_or c.args.responses.now n (scalar 0, scalar 0))) inv.0 (subst T w.if-not-is-key.ensures tt))))
-      | in-default-node w ↦
-          let k = w.in-default-node.field-0 in
-          let cs = w.in-default-node.field-1 in
-          let at = gate_entry rule i k cs c.in-Some.node c.in-Some.ensures w.in-default-node.is in
-          (next_gate rule i n inv.0 k (children_of cs) at _ w.leaf_is, omega (arith, w.leaf_is, inv.1), below_more _ _ inv.2 (no_leaf rule P i k (children_of cs) at))
+          (next_leaf rule i n inv.0 kind s at _ w.leaf-is, omega (arith, w.leaf-is, inv.1), below_more _ _ inv.2 (at_leaf rule P i kind s at (subst (λ n. IsKey m kind (get_or c.args.responses.now n (scalar 0, scalar 0))) inv.0 (subst T w.if-not-is_key.ensures tt))))
+      | in_default-node w ↦
+          let k = w.in_default-node.field-0 in
+          let cs = w.in_default-node.field-1 in
+          let at = gate_entry rule i k cs c.in-Some.node c.in-Some.ensures w.in_default-node.is in
+          (next_gate rule i n inv.0 k (children_of cs) at _ w.leaf-is, omega (arith, w.leaf-is, inv.1), below_more _ _ inv.2 (no_leaf rule P i k (children_of cs) at))
     ]
 
-pub returns-then-not-is-key : goal.returns-then-not-is-key
-returns-then-not-is-key g c =
+pub returns-then-not-is_key : goal.returns-then-not-is_key
+returns-then-not-is_key g c =
     let m = g.S.LeafKinds.meaning c.args.set.now in
     let rule = rule_in c.args.rule.now in
     let rs = c.args.responses.now in
@@ -52,10 +52,10 @@ returns-then-not-is-key g c =
     let s = c.in-Leaf.statement in
     let inv = c.loop-i.invariant in
     let at = leaf_entry rule i kind s c.in-Some.node c.in-Some.ensures c.in-Leaf.is in
-    let part = c.unfit-part.ensures ∙ ap (λ n. cond (is_scalar m (get_or rs n (scalar 0, scalar 0)).0) 1 0) inv.0 in
+    let part = c.unfit_part.ensures ∙ ap (λ n. cond (is_scalar m (get_or rs n (scalar 0, scalar 0)).0) 1 0) inv.0 in
     each_told i _ (omega (arith, c.loop-i-test.true, c.len-i-end.ensures.is)) inv.2
-    (λ f. subst T (sym (c.if-not-is-key.ensures ∙ ap (λ n. is_key m.q (m.kind kind).width (get_or rs n (scalar 0, scalar 0))) inv.0)) (f kind s at))
-    (ap₂ (λ a b. Some (UnfitWord (a + b))) (ap₂ ◌+◌ (ap₂ (λ a b. a + 4 * b) c.len.ensures.is c.leaf-count.ensures.is) (ap (λ n. 2 * n) inv.0)) part)
+    (λ f. subst T (sym (c.if-not-is_key.ensures ∙ ap (λ n. is_key m.q (m.kind kind).width (get_or rs n (scalar 0, scalar 0))) inv.0)) (f kind s at))
+    (ap₂ (λ a b. Some (UnfitWord (a + b))) (ap₂ ◌+◌ (ap₂ (λ a b. a + 4 * b) c.len.ensures.is c.leaf_count.ensures.is) (ap (λ n. 2 * n) inv.0)) part)
 
 pub returns : goal.returns
 returns g c = each_clear c.loop-i.i (omega (arith, c.loop-i-test.false, c.len-i-end.ensures.is)) c.loop-i.invariant.2

@@ -9,8 +9,8 @@ pub returns : goal.returns
 returns c =
     let n = length c.args.challenges.now in
     let l = length c.args.commitments.now in
-    let a = c.write-challenges.new.out in
-    let b = c.write-images.new.out in
-    let d = c.write-keys.new.out in
-    three_parts n (4 * l) _ a b d _ (ap length c.write-challenges.ensures ∙ length-map c.args.challenges.now value) (ap length c.write-images.ensures ∙ image_words_long c.args.commitments.now)
-    ∙ ap₂ ◌++◌ c.write-challenges.ensures (ap₂ ◌++◌ c.write-images.ensures c.write-keys.ensures)
+    let a = c.write_challenges.new.out in
+    let b = c.write_images.new.out in
+    let d = c.write_keys.new.out in
+    three_parts n (4 * l) _ a b d _ (ap length c.write_challenges.ensures ∙ length-map c.args.challenges.now value) (ap length c.write_images.ensures ∙ image_words_long c.args.commitments.now)
+    ∙ ap₂ ◌++◌ c.write_challenges.ensures (ap₂ ◌++◌ c.write_images.ensures c.write_keys.ensures)
