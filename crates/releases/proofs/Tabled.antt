@@ -1,4 +1,4 @@
--- The entries of a well_formed table are well formed, and those of a ring that was read are stated.
+-- The entries of a well-formed table are well formed, and those of a ring that was read are stated.
 use Rattle.std.proofs.Common.{◌≡◌, ℕ, zero, suc, ◌+◌, ◌<◌, ◌≤◌, Bool, true, false, cond, T, eqb, ltb, List, [], ◌∷◌, length, get_or, Some, None, Option, sym, refl, ap, subst, arith}
 use mathlib.Core.Option.{Option as Found, some, none}
 use native.Mathlib.Decide.{dec_le}

@@ -1,7 +1,7 @@
 -- A rule with its ring: the entries of the table, each leaf with the kind and the statement of its line.
 --   Entry                 a leaf with its kind's number and its statement, or a gate with its threshold and the positions of its children
 --   entries rows lines    the entries of a table, the leaves with these lines in order
---   LeafAt, GateAt      which entry stands at a position
+--   LeafAt, GateAt        which entry stands at a position
 --   Child i p j           entry i is child j of the gate at p
 --   WellFormed rule       children stand after their gate, and every entry but the first is one child of one gate
 --   Known m kind          kinds are numbered from 1

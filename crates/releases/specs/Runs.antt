@@ -5,10 +5,10 @@
 --   Vacant events slot        nothing is filed in the slot
 --   Stands m rule events b    forks of filed transcripts are obeyed, and their keys open their leaves and satisfy the rule;
 --                             what was answered or simulated can be filed, word for word, into any slot left empty
---   AlwaysStands             this holds after every list of calls at a new bench
---   RepliesOnce              after every list of calls, every call has exactly one reply and leaves exactly one bench
---   SimulatedOnce            at a new bench, exactly one tape simulates the words of an acceptable transcript
---   AnsweredOnce             and exactly one commits and answers them, for keys that open their leaves and satisfy the rule
+--   AlwaysStands              this holds after every list of calls at a new bench
+--   RepliesOnce               after every list of calls, every call has exactly one reply and leaves exactly one bench
+--   SimulatedOnce             at a new bench, exactly one tape simulates the words of an acceptable transcript
+--   AnsweredOnce              and exactly one commits and answers them, for keys that open their leaves and satisfy the rule
 use Rattle.std.specs.Prelude.{◌≡◌, ℕ, ◌*◌, ◌<◌, List, [], ◌∷◌, Some, Option}
 use Rattle.std.proofs.Math.Option.{some}
 use Rattle.std.proofs.Math.ListN.{get_elem?}

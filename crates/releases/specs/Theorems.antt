@@ -1,17 +1,17 @@
--- What holds of every lawful set of leaf kinds and every well_formed rule.
---   Setting m rule      a lawful set, a well_formed rule, and statements that are images
---   Fit m rule keys     keys that open their leaves and satisfy the rule
---   Marks               marks that keep the equation of satisfied entries
+-- What holds of every lawful set of leaf kinds and every well-formed rule.
+--   Setting m rule     a lawful set, a well-formed rule, and statements that are images
+--   Fit m rule keys    keys that open their leaves and satisfy the rule
+--   Marks              marks that keep the equation of satisfied entries
 --   SatisfiedOnly      an entry is satisfied exactly as the equation says
 --   ForksSatisfy       a fork gives exactly one list of keys, and they open their leaves and satisfy the rule
 --   SimulatedFits      simulating writes exactly one transcript, and it is acceptable
 --   FirstChosen        there is exactly one choice of the first k satisfied children, and it is a choice of real entries
 --   ChosenFits         every choice of real entries makes exactly one transcript of a challenge, and it is acceptable
 --   AnsweredFits       committing writes exactly one list of commitments; answering then writes, for each challenge, exactly one transcript;
---                       it has these commitments, and it is acceptable
---   OneSimulatedTape  an acceptable transcript is simulated by exactly one tape
---   OneHonestTape     and is answered, for keys that open their leaves and satisfy the rule, by exactly one tape
---   Words               a transcript's words are N + 6L, and parsing and spelling undo each other
+--                      it has these commitments, and it is acceptable
+--   OneSimulatedTape   an acceptable transcript is simulated by exactly one tape
+--   OneHonestTape      and is answered, for keys that open their leaves and satisfy the rule, by exactly one tape
+--   Words              a transcript's words are N + 6L, and parsing and spelling undo each other
 --   ReadingSets        a rule and a ring that are read and paired are a setting, with any lawful set
 use Rattle.std.specs.Prelude.{◌≡◌, ℕ, ◌+◌, ◌*◌, ◌<◌, Bool, T, List, length, None, Option}
 use Rattle.std.proofs.Math.ListN.{get_elem?}
