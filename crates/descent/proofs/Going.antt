@@ -1,6 +1,6 @@
 -- Going down a rule gate by gate: what holds of the gates that were passed.
 use mathlib.Core.Path.{◌≡◌, refl, sym, ap, ap₂, subst, ◌∙◌}
-use mathlib.Core.List.{List, [], ◌∷◌, map}
+use mathlib.Core.List.{List, [], ◌∷◌}
 use mathlib.Core.Logic.{◌⊎◌, inl, inr}
 use mathlib.Core.Option.{some}
 use Prim.Native.Nat.{ℕ, zero, suc, ◌+◌, ◌-◌, ◌<◌, ◌≤◌}
@@ -10,11 +10,10 @@ use lib.Dec.{T}
 use lib.ListN.{length, get_or, drop, get_elem?}
 use lib.Seq.{get_or-drop}
 use Rattle.fields.specs.Fields.{FieldModel}
-use Rattle.rules.specs.Tables.{Row, leaf, node, GateAt, Child, WellFormed}
+use Rattle.rules.specs.Tables.{Row, leaf, node, GateAt, WellFormed}
 use Rattle.splits.specs.Gates.{Balanced}
-use Rattle.descent.specs.Descents.{share_size, before, at_children, AtGate, Descends}
+use Rattle.descent.specs.Descents.{before, at_children, AtGate, Descends}
 use Rattle.descent.proofs.Moved.{taken}
-use Rattle.descent.proofs.Shares.{before_none, before_more}
 
 -- a number stands in a list, or nowhere in it
 stands : (cs : List ℕ) (p : ℕ) → ((j : ℕ) × (j < length cs) × (get_or cs j 0 ≡ p)) ⊎ ((j : ℕ) → j < length cs → get_or cs j 0 ≡ p → ⊥)

@@ -1,8 +1,8 @@
 -- The exported powers where there is one.
-use Rattle.std.proofs.Common.{◌≡◌, ℕ, ◌+◌, ◌*◌, ◌%◌, ◌^◌, ◌<◌, ◌≤◌, Bool, true, cond, ◌&&◌, ltb, leb, sym, ap, ◌∙◌, subst, ap₂}
+use Rattle.std.proofs.Common.{◌≡◌, ℕ, ◌%◌, ◌^◌, ◌<◌, ◌≤◌, ◌&&◌, ltb, leb, sym, ap, ◌∙◌, ap₂}
 use Rattle.std.proofs.lemmas.Bool.{lt-ltb, le-leb, and_from, cond-true}
 use Rattle.groups.specs.Monoids.{power}
-use Rattle.groups.specs.Residues.{residue, residues_modulo}
+use Rattle.groups.specs.Residues.{residues_modulo}
 use Rattle.groups.specs.Circles.{Pair, pair, circle_modulo}
 use Rattle.groups.specs.declared.residue.Residue.{Residue}
 use Rattle.groups.specs.ResidueLaws as residues

@@ -1,7 +1,7 @@
 -- What the exported powers are, 0 where there is none.
 --   residue_power p y e     y to the e modulo p, of y below p
 --   circle_power p a b e    the first word of (a, b) to the e in the high half, the second in the low one
-use Rattle.std.specs.Prelude.{ℕ, ◌+◌, ◌*◌, ◌%◌, ◌^◌, Bool, cond, ◌&&◌, nat_le, nat_lt}
+use Rattle.std.specs.Prelude.{ℕ, ◌+◌, ◌*◌, ◌%◌, ◌^◌, cond, ◌&&◌, nat_le, nat_lt}
 use Rattle.groups.specs.Monoids.{power}
 use Rattle.groups.specs.Circles.{Pair, pair, circle_modulo}
 

@@ -1,10 +1,10 @@
 -- Euclid's steps: remainders keep their common divisors, and each keeps its factor.
-use Rattle.std.proofs.Common.{◌≡◌, ℕ, zero, suc, ◌+◌, ◌-◌, ◌*◌, ◌/◌, ◌%◌, ◌<◌, ◌≤◌, sym, refl, ap, ◌∙◌, subst, mod-lt, mod-eq_of_lt, mul_assoc, mul_comm, add-mul, one-mul, zero-mul, arith}
-use native.Mathlib.Nat.{mod-mod, zero-mod, mod_self, div-add-mod, add-mod-mod}
+use Rattle.std.proofs.Common.{◌≡◌, ℕ, zero, suc, ◌+◌, ◌-◌, ◌*◌, ◌/◌, ◌%◌, ◌<◌, sym, refl, ap, ◌∙◌, mod-lt, mod-eq_of_lt, mul_assoc, mul_comm, add-mul, one-mul, zero-mul, arith}
+use native.Mathlib.Nat.{zero-mod, mod_self, div-add-mod}
 use native.Mathlib.Decide.{dec_lt}
 use Rattle.fields.specs.Primes.{Prime}
 use Rattle.fields.specs.Modular.{difference_mod, product_mod}
-use Rattle.fields.specs.Residual.{mod_mul_mod, mul_mod_mod, same_sum, same_product, turn, cancel}
+use Rattle.fields.specs.Residual.{mod_mul_mod, same_sum, same_product, turn, cancel}
 
 -- 1 alone divides both
 abbrev pub Coprime : ℕ → ℕ → Type 0

@@ -1,5 +1,5 @@
 -- A number without a divisor up to its root is prime; the orders of the groups are, by computation.
-use Rattle.std.proofs.Common.{◌≡◌, ℕ, zero, suc, ◌+◌, ◌*◌, ◌/◌, ◌%◌, ◌<◌, ◌≤◌, Bool, true, false, not, ◌&&◌, T, eqb, sym, refl, ap, ◌∙◌, subst, mul-le-mul, mul-le-mul_left, mul-one, arith, lit<, lit≤, T_not}
+use Rattle.std.proofs.Common.{◌≡◌, ℕ, zero, suc, ◌+◌, ◌*◌, ◌/◌, ◌%◌, ◌<◌, ◌≤◌, Bool, true, false, not, ◌&&◌, T, eqb, sym, ap, ◌∙◌, subst, mul-le-mul, mul-le-mul_left, mul-one, arith, lit<, lit≤, T_not}
 use native.Mathlib.Nat.{div-add-mod, mul-mod_left}
 use native.Mathlib.Decide.{dec_lt}
 use Rattle.fields.specs.Primes.{Prime}

@@ -1,5 +1,5 @@
 -- Every number below a prime but 0 has an inverse modulo it.
-use Rattle.std.specs.Prelude.{◌≡◌, ℕ, zero, suc, ◌+◌, ◌-◌, ◌*◌, ◌/◌, ◌%◌, ◌<◌, ◌≤◌, refl}
+use Rattle.std.specs.Prelude.{◌≡◌, ℕ, zero, suc, ◌+◌, ◌-◌, ◌*◌, ◌/◌, ◌%◌, ◌<◌, ◌≤◌}
 use Rattle.std.proofs.Common.{sym, ap, ◌∙◌, mod-lt, mod-eq_of_lt, mul_assoc, mul_right_comm, add-mul, arith}
 use Rattle.std.proofs.Math.Nat.{mul-add-mod_self_right, div-add-mod}
 use Rattle.fields.specs.Primes.{Prime}

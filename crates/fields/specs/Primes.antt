@@ -1,7 +1,7 @@
 -- Primes.
 --   Prime n    n is at least 2, and no number between 1 and n divides it
 --   in_range q q is from 11 to 2,147,483,647: the orders that are served
-use Rattle.std.specs.Prelude.{◌≡◌, ℕ, ◌%◌, ◌<◌, ◌≤◌, Bool, ◌&&◌, ◌≢◌, nat_le}
+use Rattle.std.specs.Prelude.{ℕ, ◌%◌, ◌<◌, ◌≤◌, Bool, ◌&&◌, ◌≢◌, nat_le}
 
 abbrev pub Prime : ℕ → Type 0
 Prime n = (2 ≤ n) × ((d : ℕ) → 1 < d → d < n → n % d ≢ 0)

@@ -1,5 +1,5 @@
 -- Sums and products of remainders.
-use Rattle.std.specs.Prelude.{◌≡◌, ℕ, zero, suc, ◌+◌, ◌-◌, ◌*◌, ◌/◌, ◌%◌, ◌^◌, ◌<◌, ◌≤◌, refl}
+use Rattle.std.specs.Prelude.{◌≡◌, ℕ, ◌+◌, ◌-◌, ◌*◌, ◌/◌, ◌%◌, ◌<◌, refl}
 use Rattle.std.proofs.Common.{sym, ap, ◌∙◌, mod-lt, add-mul, mul_assoc, mul_comm, arith}
 use Rattle.std.proofs.Math.Nat.{mod-add-div, mod_self, add-mod-mod, mod-add-mod, add-mul-mod_self_left}
 

@@ -1,10 +1,10 @@
 -- The scalars modulo a prime are a field with nine different points.
-use Rattle.std.specs.Prelude.{◌≡◌, ℕ, zero, suc, ◌+◌, ◌-◌, ◌*◌, ◌%◌, ◌<◌, ◌≤◌, ◌&&◌, T, nat_lt, refl}
-use Rattle.std.proofs.Common.{sym, ap, ◌∙◌, mod-lt, mod-eq_of_lt, add_assoc, add_comm, add-zero, mul_assoc, mul_comm, mul-one, mul-add, add-sub_of_le, pos_of_ne-zero, le_of_lt, arith, ltb→lt, lt→ltb, leb→le}
-use Rattle.std.proofs.Math.Nat.{mod-add-mod, add-mod-mod, mod_self, zero-mod}
+use Rattle.std.specs.Prelude.{◌≡◌, ℕ, ◌+◌, ◌-◌, ◌*◌, ◌%◌, ◌<◌, ◌≤◌, T, nat_lt, refl}
+use Rattle.std.proofs.Common.{ap, ◌∙◌, mod-lt, mod-eq_of_lt, add_assoc, add_comm, add-zero, mul_assoc, mul_comm, mul-one, mul-add, add-sub_of_le, pos_of_ne-zero, le_of_lt, arith, ltb→lt, lt→ltb}
+use Rattle.std.proofs.Math.Nat.{mod-add-mod, add-mod-mod, mod_self}
 use Rattle.std.proofs.Math.Decide.{ℕ_discrete}
-use Rattle.fields.specs.Fields.{FieldModel, FieldLaws}
-use Rattle.fields.specs.Primes.{Prime, in_range}
+use Rattle.fields.specs.Fields.{FieldLaws}
+use Rattle.fields.specs.Primes.{Prime}
 use Rattle.fields.specs.Scalars.{scalar, scalars_model}
 use Rattle.fields.specs.declared.scalar.Scalar.{Scalar}
 use Rattle.fields.specs.Residual.{mod_mul_mod, mul_mod_mod}

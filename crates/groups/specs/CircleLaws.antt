@@ -9,7 +9,6 @@ use Rattle.fields.specs.Residual.{same_sum}
 use Rattle.groups.specs.Monoids.{MonoidLaws, power}
 use Rattle.groups.specs.Groups.{GroupLaws}
 use Rattle.groups.specs.Listed.{number_refusal}
-use Rattle.groups.specs.Residues.{residue}
 use Rattle.groups.specs.Circles.{Pair, pair, circle_product, circle_modulo, is_one, circle_element, circle_elements, circle_model, circle_base, circle_refusal}
 use Rattle.groups.specs.Torsion.{Torsion, torsion_laws, torsion_ordered}
 use Rattle.groups.specs.Passing.{Quiet, passes, quiet_both, picks, picked}

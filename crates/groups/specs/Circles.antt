@@ -6,7 +6,7 @@
 --   circle_elements q p           the elements under this product
 --   circle_model q p g h          the group; an element (a, b) is written as the words a, b
 --   circle_refusal q p g h        why the group is not made
-use Rattle.std.specs.Prelude.{ℕ, ◌+◌, ◌-◌, ◌*◌, ◌%◌, Bool, cond, not, ◌&&◌, List, [], ◌∷◌, Some, None, Option, ◌==◌, nat_lt}
+use Rattle.std.specs.Prelude.{ℕ, ◌+◌, ◌-◌, ◌*◌, ◌%◌, Bool, cond, not, ◌&&◌, [], ◌∷◌, Some, None, Option, ◌==◌, nat_lt}
 use Rattle.refusals.specs.declared.Refusal.{Refusal}
 use Rattle.refusals.specs.declared.Refusal.TheVariants.{NoSuchGroup, UnfitBase}
 use Rattle.refusals.specs.declared.Base.TheVariants.{First, Second}

@@ -1,7 +1,7 @@
 -- A commutative group of prime order with two bases, as one value and its laws.
 --   GroupModel E     its order, its bases g and h, the two words of an element, the element that two words stand for, if any
 --   GroupLaws m p    the laws, over the monoid m of its elements
-use Rattle.std.specs.Prelude.{◌≡◌, ℕ, ◌≤◌, T, Some, None, Option}
+use Rattle.std.specs.Prelude.{◌≡◌, ℕ, ◌≤◌, T, Some, Option}
 use Rattle.fields.specs.Primes.{Prime}
 use Rattle.groups.specs.Monoids.{MonoidModel, power}
 

@@ -2,7 +2,7 @@
 --   listed_order q     q is 11, 13, 331 or 166,667
 --   listed_modulus p   p is 23, 43, 53, 103, 2,647, 1,000,003, 2,000,003 or 2,147,483,647
 --   number_refusal q p why no group has the order q and the modulus p, as far as the two lists tell
-use Rattle.std.specs.Prelude.{ℕ, Bool, ◌||◌, List, [], ◌∷◌, Option, ◌==◌}
+use Rattle.std.specs.Prelude.{ℕ, Bool, ◌||◌, [], ◌∷◌, Option, ◌==◌}
 use Rattle.refusals.specs.declared.Refusal.{Refusal}
 use Rattle.refusals.specs.declared.Refusal.TheVariants.{OutOfRange, NotListed}
 use Rattle.refusals.specs.declared.Parameter.TheVariants.{Order, Modulus}

@@ -1,13 +1,13 @@
 -- The listed orders are primes in range.
-use Rattle.std.specs.Prelude.{◌≡◌, ℕ, ◌≤◌, Bool, true, false, ◌&&◌, ◌||◌, T, ◌==◌, nat_le}
+use Rattle.std.specs.Prelude.{ℕ, ◌≤◌, Bool, true, false, ◌||◌, T, ◌==◌, nat_le}
 use Rattle.std.proofs.Common.{sym, subst, eqb→eq, leb→le}
 use Rattle.std.specs.Float.Ieee.Fits.{and_l, and_r}
 use Rattle.refusals.specs.declared.Refusal.TheVariants.{OutOfRange, NotListed}
 use Rattle.refusals.specs.declared.Parameter.TheVariants.{Order, Modulus}
 use Rattle.fields.specs.Primes.{Prime, in_range}
 use Rattle.fields.proofs.Primality.{prime_11, prime_13, prime_331, prime_166667}
-use Rattle.groups.specs.Listed.{listed_order, listed_modulus, number_refusal}
-use Rattle.groups.specs.Passing.{Quiet, passes, quiet_both, quiet_test}
+use Rattle.groups.specs.Listed.{listed_order, number_refusal}
+use Rattle.groups.specs.Passing.{Quiet, passes}
 
 either : {X : Type 0} (a b : Bool) → T (a || b) → (T a → X) → (T b → X) → X
 either true b t f g = f tt

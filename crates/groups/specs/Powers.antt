@@ -1,7 +1,7 @@
 -- Powers in a commutative monoid: sums in the exponent, and the turns of square and multiply.
-use Rattle.std.specs.Prelude.{◌≡◌, ℕ, zero, suc, ◌+◌, ◌*◌, ◌/◌, ◌%◌, ◌<◌, T}
+use Rattle.std.specs.Prelude.{◌≡◌, ℕ, zero, suc, ◌+◌, ◌/◌, ◌%◌, T}
 use Rattle.std.proofs.Math.Path.{refl, sym, ap}
-use Rattle.std.proofs.Common.{subst, ◌∙◌, zero-add, suc-add, add-suc, add-zero}
+use Rattle.std.proofs.Common.{◌∙◌, zero-add, suc-add}
 use native.Mathlib.Omega.{arith}
 use Rattle.groups.specs.Monoids.{MonoidModel, MonoidLaws, power}
 

@@ -5,7 +5,7 @@
 --   residue_elements q p          the elements under the product modulo p
 --   residue_model q p g h         the group; an element y is written as the words y, 0
 --   residue_refusal q p g h       why the group is not made
-use Rattle.std.specs.Prelude.{ℕ, ◌-◌, ◌%◌, ◌^◌, Bool, cond, not, ◌&&◌, List, [], ◌∷◌, Some, None, Option, ◌==◌, nat_lt}
+use Rattle.std.specs.Prelude.{ℕ, ◌-◌, ◌%◌, ◌^◌, Bool, cond, not, ◌&&◌, [], ◌∷◌, Some, None, Option, ◌==◌, nat_lt}
 use Rattle.refusals.specs.declared.Refusal.{Refusal}
 use Rattle.refusals.specs.declared.Refusal.TheVariants.{NoSuchGroup, UnfitBase}
 use Rattle.refusals.specs.declared.Base.TheVariants.{First, Second}

@@ -1,8 +1,8 @@
 -- Sets that are written out as lists: a set of one kind, and joins.
-use Rattle.std.proofs.Common.{◌≡◌, ℕ, zero, suc, ◌+◌, ◌-◌, ◌<◌, ◌≤◌, Bool, true, false, cond, ◌&&◌, eqb, ltb, leb, ◌⊎◌, List, [], ◌∷◌, ◌++◌, length, get_or, sym, refl, ap, ◌∙◌, ap₂, inl, inr, arith, length-append}
+use Rattle.std.proofs.Common.{◌≡◌, ℕ, zero, suc, ◌+◌, ◌-◌, ◌<◌, ◌≤◌, true, false, cond, ◌&&◌, eqb, ltb, leb, ◌⊎◌, List, [], ◌∷◌, ◌++◌, length, get_or, sym, refl, ap, ◌∙◌, ap₂, inl, inr, arith, length-append}
 use Rattle.std.proofs.lemmas.List.{get_or-append_right}
 use Rattle.std.proofs.lemmas.Bool.{cases_Bool, ltb-true, ltb-false, eq-eqb, ne_eqb, le-leb, and_from}
-use Rattle.kinds.specs.Kinds.{Kind, no_kind, KindModel}
+use Rattle.kinds.specs.Kinds.{Kind, no_kind}
 use Rattle.kinds.specs.Coded.{alone}
 use Rattle.kinds.specs.Joins.{fits, join}
 use Rattle.kinds.specs.Numbered.{set_of}

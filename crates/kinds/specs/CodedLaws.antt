@@ -1,7 +1,7 @@
 -- The images of a coded kind keep the laws of the elements that they stand for.
-use Rattle.std.specs.Prelude.{◌≡◌, ℕ, zero, suc, ◌<◌, ◌≤◌, Bool, true, false, cond, ◌&&◌, T, is_some, Some, None, Option}
+use Rattle.std.specs.Prelude.{◌≡◌, ℕ, zero, suc, ◌<◌, ◌≤◌, Bool, false, cond, ◌&&◌, T, is_some, Some, None, Option}
 use Rattle.std.proofs.Math.Path.{refl, ap}
-use Rattle.std.proofs.Common.{sym, ap₂, subst, ◌∙◌, arith}
+use Rattle.std.proofs.Common.{sym, ap₂, subst, ◌∙◌}
 use Rattle.groups.specs.Monoids.{MonoidModel, MonoidLaws, power}
 use Rattle.groups.specs.Powers.{power_in}
 use Rattle.groups.specs.Passing.{picks}

@@ -4,12 +4,11 @@
 --   mixed    width 2: the image of (u, v) is g^u h^v
 --   single_set, twin_set, mixed_set   the sets of one kind
 -- An image is the words of one element and two zeros, at twin the words of two elements.
-use Rattle.std.specs.Prelude.{ℕ, cond, ◌&&◌, Some, None, Option, ◌==◌}
+use Rattle.std.specs.Prelude.{cond, ◌&&◌, Some, None, Option, ◌==◌}
 use Rattle.groups.specs.Monoids.{MonoidModel, power}
 use Rattle.groups.specs.Groups.{GroupModel}
-use Rattle.kinds.specs.Kinds.{Key, Kind, KindModel}
+use Rattle.kinds.specs.Kinds.{Kind, KindModel}
 use Rattle.kinds.specs.Coded.{Coding, coded, alone}
-use Rattle.kinds.specs.declared.image.Image.{Image}
 
 -- one element
 abbrev pub one_element : {E : Type 0} → GroupModel E → Coding E

@@ -1,5 +1,5 @@
 -- The three kinds over a group keep the laws of a kind.
-use Rattle.std.specs.Prelude.{◌≡◌, ℕ, zero, suc, ◌+◌, ◌%◌, ◌<◌, ◌≤◌, Bool, true, false, cond, ◌&&◌, T, Some, None, Option, ◌==◌, refl}
+use Rattle.std.specs.Prelude.{◌≡◌, ℕ, zero, suc, ◌<◌, Bool, true, false, cond, ◌&&◌, T, Some, None, Option, ◌==◌, refl}
 use Rattle.std.proofs.Common.{sym, ap, ap₂, subst, ◌∙◌, arith, eqb→eq, lit≤}
 use Rattle.std.specs.Float.Ieee.Fits.{and_i, and_l, and_r}
 use Rattle.std.proofs.lemmas.Bool.{ne_eqb}
@@ -9,11 +9,10 @@ use Rattle.groups.specs.Groups.{GroupModel, GroupLaws}
 use Rattle.groups.specs.Powers.{power_in}
 use Rattle.groups.proofs.Exponents.{power_sum}
 use Rattle.groups.specs.Torsion.{exchange}
-use Rattle.kinds.specs.Kinds.{Key, Kind, no_kind, is_key, add_keys, KindLaws, Lawful}
-use Rattle.kinds.specs.Coded.{Coding, coded, alone}
+use Rattle.kinds.specs.Kinds.{Kind, no_kind, KindLaws, Lawful}
+use Rattle.kinds.specs.Coded.{alone}
 use Rattle.kinds.specs.GroupKinds.{one_element, paired, two_elements, pairs, single, twin, mixed, single_set, twin_set, mixed_set}
-use Rattle.kinds.specs.declared.image.Image.{Image}
-use Rattle.kinds.specs.CodedLaws.{CodingLaws, Opening, coded_laws}
+use Rattle.kinds.specs.CodedLaws.{CodingLaws, coded_laws}
 
 pairs_power : {E : Type 0} (m : MonoidModel E) (x : E × E) (k : ℕ) → power (pairs m) x k ≡ (power m x.0 k, power m x.1 k)
 unfolding power

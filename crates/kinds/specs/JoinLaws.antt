@@ -1,8 +1,8 @@
 -- A join of two lawful sets is lawful.
-use Rattle.std.specs.Prelude.{◌≡◌, ℕ, ◌+◌, ◌-◌, ◌<◌, ◌≤◌, Bool, true, false, cond, ◌&&◌, T, ◌==◌, nat_le, nat_lt, refl}
+use Rattle.std.specs.Prelude.{◌≡◌, ℕ, ◌+◌, ◌-◌, ◌<◌, ◌≤◌, Bool, true, false, cond, ◌&&◌, ◌==◌, nat_le, nat_lt, refl}
 use Rattle.std.proofs.Common.{sym, ap, subst, ◌∙◌, arith}
 use Rattle.std.proofs.lemmas.Bool.{ltb-true, ltb-false, leb-true, eqb-true, le-ltb, and_parts, and_right}
-use Rattle.kinds.specs.Kinds.{Kind, no_kind, KindModel, KindLaws, Lawful}
+use Rattle.kinds.specs.Kinds.{no_kind, KindModel, KindLaws, Lawful}
 use Rattle.kinds.specs.Joins.{fits, join}
 
 -- by the two tests: does it fit, and is the number past the left's

@@ -2,7 +2,7 @@
 --   fits a b          the sides have one q, and together at most 255 kinds
 --   join a b          where the sides fit, the kinds of a and then those of b, else a alone
 --   join_refusal a b  why a join is not made
-use Rattle.std.specs.Prelude.{ℕ, ◌+◌, ◌-◌, Bool, cond, ◌&&◌, List, [], ◌∷◌, Option, ◌==◌, nat_le, nat_lt}
+use Rattle.std.specs.Prelude.{◌+◌, ◌-◌, Bool, cond, ◌&&◌, [], ◌∷◌, Option, ◌==◌, nat_le, nat_lt}
 use Rattle.refusals.specs.declared.Refusal.{Refusal}
 use Rattle.refusals.specs.declared.Refusal.TheVariants.{OrdersDiffer, TooManyKinds}
 use Rattle.refusals.specs.Checks.{unless, first}

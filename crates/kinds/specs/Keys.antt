@@ -1,6 +1,6 @@
 -- Keys of a width: their scalars, and their sums.
-use Rattle.std.specs.Prelude.{◌≡◌, ℕ, ◌+◌, ◌%◌, ◌<◌, ◌≤◌, Bool, true, false, cond, ◌&&◌, T, ◌==◌, nat_lt, refl}
-use Rattle.std.proofs.Common.{sym, ap, subst, ◌∙◌, mod-lt, mod-eq_of_lt, arith, ltb→lt, lt→ltb, eqb→eq}
+use Rattle.std.specs.Prelude.{◌≡◌, ℕ, ◌+◌, ◌%◌, ◌<◌, Bool, true, false, cond, ◌&&◌, T, ◌==◌, nat_lt}
+use Rattle.std.proofs.Common.{sym, ap, subst, ◌∙◌, mod-lt, arith, ltb→lt, lt→ltb, eqb→eq}
 use Rattle.std.proofs.Math.Nat.{zero-mod}
 use Rattle.std.specs.Float.Ieee.Fits.{and_i, and_l, and_r}
 use Rattle.kinds.specs.Kinds.{Key, is_key, add_keys}

@@ -9,7 +9,7 @@
 --   KindModel          a set: q, the number of kinds, and the kind at each number, counted from 1
 --   KindLaws q k       the laws of one kind
 --   Lawful m           the laws of a set
-use Rattle.std.specs.Prelude.{◌≡◌, ℕ, ◌<◌, ◌≤◌, Bool, true, false, cond, ◌&&◌, T, ◌==◌, nat_lt}
+use Rattle.std.specs.Prelude.{◌≡◌, ℕ, ◌<◌, ◌≤◌, Bool, false, cond, ◌&&◌, T, ◌==◌, nat_lt}
 use Rattle.fields.specs.Primes.{Prime}
 use Rattle.fields.specs.Modular.{sum_mod}
 use Rattle.fields.specs.Scalars.{scalar}

@@ -1,5 +1,5 @@
 -- Equations of a commutative ring by computation: `ring` proves an equation of two expressions whose sorted monomials are the same.
-use Rattle.std.proofs.Common.{◌≡◌, ℕ, zero, suc, Bool, true, false, cond, eqb, ltb, List, [], ◌∷◌, ◌++◌, get_or, sym, refl, ap, ◌∙◌, ap₂}
+use Rattle.std.proofs.Common.{◌≡◌, ℕ, suc, Bool, true, false, cond, eqb, ltb, List, [], ◌∷◌, ◌++◌, get_or, sym, refl, ap, ◌∙◌, ap₂}
 use Rattle.polynomials.proofs.Total.{TotalField}
 
 -- an expression in numbered variables

@@ -2,7 +2,7 @@
 --   eval K cs x     the value at x of the polynomial with these coefficients, lowest first
 --   All P xs        P holds of every entry
 --   Distinct xs     no two entries are the same
-use Rattle.std.proofs.Common.{◌≡◌, ℕ, zero, suc, ◌≤◌, List, [], ◌∷◌, length, sym, refl, ap, ◌∙◌, ap₂, le_of_suc-le-suc, not-suc-le-zero, arith}
+use Rattle.std.proofs.Common.{◌≡◌, suc, ◌≤◌, List, [], ◌∷◌, length, sym, refl, ap, ◌∙◌, ap₂, le_of_suc-le-suc, not-suc-le-zero, arith}
 use Rattle.polynomials.proofs.Total.{TotalField}
 use Rattle.polynomials.proofs.Ring.{ring, combine, nought_plus, times_nought}
 use Rattle.polynomials.proofs.Ring.{var, 𝟘, 𝟙, ◌⊕◌, ◌⊗◌, ⊝◌, ◌⊖◌}

@@ -9,13 +9,13 @@ use Rattle.rules.specs.declared.entry.Entries.{Entries}
 use Rattle.rules.specs.declared.entry.Children.{Children}
 use Rattle.rules.specs.declared.head.Head.{Head}
 use Rattle.rules.specs.declared.head.Head.TheVariants.{All, Any, Of}
-use Rattle.rules.specs.Grammar.{Rule, Rules, key, gate, none, more, count, text, marked, opening, keys}
+use Rattle.rules.specs.Grammar.{Rule, Rules, key, gate, none, more, count, text, marked, opening}
 use Rattle.rules.specs.Tables.{size, rows, rows_of, starts, Row, leaf, node}
 use Rattle.rules.specs.Views.{children_of, listing}
 use Rattle.rules.specs.Faults.{item, number, after, Open, opened, State, state, step, finish, run, follow, close, digit, fits, threshold, scan, ◌then◌}
 use Rattle.rules.specs.ReaderSteps.{from, onto, Numbered, Unnumbered, Headed, Begins, Proper, Item, Refused, Items, ItemsRefused}
 use Rattle.rules.proofs.Rows.{gate_length, listing_length}
-use Rattle.rules.proofs.Steps.{moves, stops, fails, unfinished, run_cons, ends, go, inside, spelling}
+use Rattle.rules.proofs.Steps.{moves, stops, fails, unfinished, run_cons, go, inside, spelling}
 
 or_true : (b : Bool) → (b || true) ≡ true
 or_true true = refl

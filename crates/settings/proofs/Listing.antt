@@ -5,7 +5,7 @@ use lib.ListN.{get_elem?}
 use Rattle.std.proofs.lemmas.List.{length-map, length-take-le, get_or-map, get_or-take}
 use Rattle.rules.specs.Tables.{Row, leaf as key_row, node as gate_row, leaves as keys}
 use Rattle.rings.specs.declared.line.Line.{Line}
-use Rattle.releases.specs.Entries.{Entry, leaf, gate, entries, leaves}
+use Rattle.releases.specs.Entries.{gate, entries, leaves}
 use Rattle.rules.specs.declared.entry.Children.{Children}
 use Rattle.rules.specs.Views.{children_of}
 use Rattle.settings.specs.declared.node.Node.{Node}

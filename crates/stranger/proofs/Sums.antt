@@ -1,5 +1,5 @@
 -- Sums of keys at any kind number of a lawful set.
-use Rattle.std.proofs.Common.{◌≡◌, ℕ, false, ◌&&◌, T, ltb, ◌⊎◌, ap, subst, inl, inr}
+use Rattle.std.proofs.Common.{◌≡◌, ℕ, false, T, ltb, ◌⊎◌, subst, inl, inr}
 use lib.Ieee.Fits.{and_r}
 use Rattle.kinds.specs.Kinds.{Key, Kind, no_kind, is_key, add_keys, KindModel, KindLaws, Lawful}
 use Rattle.kinds.specs.Sets.{kind_or_none}

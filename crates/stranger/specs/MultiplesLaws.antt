@@ -1,16 +1,16 @@
 -- The multiples are a lawful set.
-use Rattle.std.specs.Prelude.{◌≡◌, ℕ, zero, suc, ◌+◌, ◌*◌, ◌%◌, ◌<◌, ◌≤◌, Bool, true, false, cond, ◌&&◌, T, nat_le, nat_lt, refl}
+use Rattle.std.specs.Prelude.{◌≡◌, ℕ, zero, suc, ◌+◌, ◌*◌, ◌%◌, ◌<◌, ◌≤◌, ◌&&◌, T, nat_le, nat_lt, refl}
 use Rattle.std.proofs.Common.{sym, ap₂, subst, ◌∙◌, mod-lt, mod-eq_of_lt, add_assoc, add_comm, add-mul, lit≤, lt→ltb, le→leb}
 use Rattle.std.proofs.Math.Path.{ap}
 use Rattle.std.proofs.Math.Nat.{add-mod-mod, mod-add-mod, zero-mod}
 use native.Mathlib.Omega.{arith}
-use Rattle.std.specs.Float.Ieee.Fits.{and_i, and_l, and_r}
-use Rattle.std.proofs.lemmas.Bool.{and_left, and_right, le-ltb, lt-leb}
+use Rattle.std.specs.Float.Ieee.Fits.{and_i}
+use Rattle.std.proofs.lemmas.Bool.{and_right, lt-leb}
 use Rattle.fields.specs.Primes.{Prime}
 use Rattle.fields.specs.Modular.{sum_mod, product_mod}
 use Rattle.fields.specs.Residual.{mod_mul_mod}
 use Rattle.groups.specs.Monoids.{MonoidLaws, power}
-use Rattle.kinds.specs.Kinds.{Key, zeros, Kind, no_kind, images, is_key, add_keys, KindModel, KindLaws, Lawful}
+use Rattle.kinds.specs.Kinds.{Key, zeros, Kind, no_kind, images, is_key, add_keys, KindLaws, Lawful}
 use Rattle.kinds.specs.declared.image.Image.{Image}
 use Rattle.kinds.specs.Keys.{key_adds}
 use Rattle.stranger.specs.Multiples.{written, is_written, multiples, multiples_set}

@@ -1,10 +1,8 @@
 -- Numbers below q as images, and their sums.
-use Rattle.std.specs.Prelude.{◌≡◌, ℕ, zero, suc, ◌+◌, ◌*◌, ◌%◌, ◌<◌, Bool, true, false, cond, ◌&&◌, T, ◌==◌, nat_lt, refl}
-use Rattle.std.proofs.Common.{sym, ap, ap₂, subst, ◌∙◌, mod-lt, mod-eq_of_lt, add_assoc, add_comm, arith, ltb→lt, lt→ltb, eqb→eq}
-use Rattle.std.proofs.Math.Nat.{add-mod-mod, mod-add-mod, mod_self, zero-mod, add-mul-mod_self_left}
+use Rattle.std.specs.Prelude.{◌≡◌, ℕ, suc, ◌+◌, ◌*◌, ◌%◌, ◌<◌, Bool, true, false, cond, T, ◌==◌, nat_lt, refl}
+use Rattle.std.proofs.Common.{sym, ap, ◌∙◌, arith, ltb→lt, lt→ltb, eqb→eq}
+use Rattle.std.proofs.Math.Nat.{add-mod-mod, zero-mod, add-mul-mod_self_left}
 use Rattle.std.specs.Float.Ieee.Fits.{and_i, and_l, and_r}
-use Rattle.fields.specs.Modular.{sum_mod, product_mod}
-use Rattle.kinds.specs.Kinds.{zeros}
 use Rattle.kinds.specs.declared.image.Image.{Image}
 use Rattle.stranger.specs.Multiples.{written, is_written}
 

@@ -1,9 +1,9 @@
 -- The nested joins of the supplied set, as the list of their six kinds.
-use Rattle.std.proofs.Common.{◌≡◌, ℕ, Bool, true, false, eqb, leb, List, [], ◌∷◌, ◌++◌, length, IfOk, Some, None, Ok, Err, Option, Result, sym, refl, ap, ◌∙◌, ap₂, arith, lit≤}
+use Rattle.std.proofs.Common.{◌≡◌, ℕ, Bool, true, false, eqb, List, [], ◌∷◌, IfOk, Some, None, Ok, Err, Option, Result, sym, refl, ap, ◌∙◌, ap₂, arith, lit≤}
 use Rattle.std.proofs.lemmas.Bool.{eqb-true}
 use Rattle.refusals.specs.declared.Refusal.{Refusal}
-use Rattle.refusals.specs.declared.Refusal.TheVariants.{OrdersDiffer, TooManyKinds}
-use Rattle.refusals.specs.Checks.{unless, or_else, first, told}
+use Rattle.refusals.specs.declared.Refusal.TheVariants.{OrdersDiffer}
+use Rattle.refusals.specs.Checks.{unless, or_else, told}
 use Rattle.groups.specs.Monoids.{MonoidModel}
 use Rattle.groups.specs.Groups.{GroupModel}
 use Rattle.groups.specs.Circles.{Pair}

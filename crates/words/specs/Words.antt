@@ -10,7 +10,7 @@
 --   numbers_at n place bs  the words of bs as n numbers
 --   at ns i                the number i of these, counted from 0
 --   built f r              the value that f makes of the numbers that were read
-use Rattle.std.specs.Prelude.{ℕ, zero, suc, ◌+◌, min, Bool, cond, List, [], ◌∷◌, length, Some, None, Ok, Err, Option, Result, ◌==◌, slice_index}
+use Rattle.std.specs.Prelude.{ℕ, zero, suc, ◌+◌, min, cond, List, [], ◌∷◌, length, Ok, Err, Result, ◌==◌, slice_index}
 use Rattle.std.specs.Option.{ok_or}
 use Rattle.words.specs.declared.bytes.Class.TheVariants.{Blank, Word}
 use Rattle.words.specs.declared.fault.Fault.{Fault}

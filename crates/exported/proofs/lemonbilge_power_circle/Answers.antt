@@ -1,4 +1,4 @@
-use Rattle.std.proofs.Common.{◌≡◌, ◌+◌, ◌*◌, ◌<◌, ◌≤◌, ◌∙◌, ap₂, arith}
+use Rattle.std.proofs.Common.{◌+◌, ◌*◌, ◌<◌, ◌≤◌, ◌∙◌, ap₂, arith}
 use Rattle.exported.proofs.Picked.{circle_powered}
 use Rattle.exported.proofs.lemonbilge_power_circle.Goals as goal
 

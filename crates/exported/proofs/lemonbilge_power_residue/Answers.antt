@@ -1,4 +1,4 @@
-use Rattle.std.proofs.Common.{◌≡◌, ◌<◌, ◌∙◌, arith}
+use Rattle.std.proofs.Common.{◌<◌, ◌∙◌, arith}
 use Rattle.exported.proofs.Picked.{residue_powered}
 use Rattle.exported.proofs.lemonbilge_power_residue.Goals as goal
 

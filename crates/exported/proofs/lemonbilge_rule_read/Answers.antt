@@ -1,4 +1,4 @@
-use Rattle.std.proofs.Common.{◌≡◌, length, sym, refl, ap, ◌∙◌}
+use Rattle.std.proofs.Common.{length, sym, refl, ap, ◌∙◌}
 use Rattle.rules.specs.Texts.{rows_in}
 use Rattle.exported.proofs.lemonbilge_rule_read.Goals as goal
 

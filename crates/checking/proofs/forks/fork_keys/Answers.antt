@@ -1,4 +1,4 @@
-use Rattle.std.proofs.Common.{ℕ, ◌+◌, ◌<◌, length, get_or, set, None, Option, sym, refl, ap, ◌∙◌, subst, arith, ltb→lt, below_more}
+use Rattle.std.proofs.Common.{ℕ, ◌+◌, ◌<◌, length, get_or, None, Option, sym, refl, ap, ◌∙◌, subst, arith, ltb→lt, below_more}
 use Rattle.fields.specs.Scalars.{scalar}
 use Rattle.kinds.specs.Kinds.{Key}
 use Rattle.kinds.specs.declared.image.Image.{Image}

@@ -1,5 +1,3 @@
-use mathlib.Core.Path.{◌≡◌, ap, ◌∙◌}
-use Prim.Native.Nat.{ℕ, ◌<◌}
 use native.Mathlib.Omega.{arith}
 use Rattle.descent.proofs.Moved.{filled_more}
 use Rattle.descent.proofs.descend.fill.Goals as goal

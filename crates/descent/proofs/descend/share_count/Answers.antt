@@ -1,14 +1,8 @@
-use mathlib.Core.Path.{◌≡◌, refl, sym, ap, subst, ◌∙◌}
-use mathlib.Core.Option.{some}
-use Prim.Native.Nat.{◌+◌, ◌-◌, ◌<◌, ◌≤◌}
+use mathlib.Core.Path.{sym}
 use native.Mathlib.Omega.{arith}
-use lib.Dec.{T}
-use lib.ListN.{length, get_or, get_elem?, drop}
-use Rattle.rules.specs.Tables.{leaf, node, WellFormed}
+use Rattle.rules.specs.Tables.{leaf, node}
 use Rattle.rules.specs.Views.{children_of}
 use Rattle.rules.specs.Texts.{rows_in}
-use Rattle.rules.proofs.Whole.{table_well_formed}
-use Rattle.descent.specs.Descents.{share_size, before, AtGate, Descends}
 use Rattle.descent.proofs.Shares.{before_none, before_more, gate_row, leaf_row}
 use Rattle.descent.proofs.descend.share_count.Goals as goal
 use Rattle.descent.proofs.descend.share_count.Goals.{in-Gate, in_default-entry}

@@ -1,14 +1,13 @@
 use mathlib.Core.Path.{◌≡◌, refl, sym, ap, subst, ◌∙◌}
-use mathlib.Core.Option.{some}
-use Prim.Native.Nat.{◌+◌, ◌-◌, ◌<◌, ◌≤◌}
+use Prim.Native.Nat.{◌+◌, ◌-◌, ◌<◌}
 use native.Mathlib.Omega.{arith}
 use lib.Dec.{T}
-use lib.ListN.{length, get_or, get_elem?, take, drop, length-drop}
-use Rattle.rules.specs.Tables.{leaf, node, WellFormed}
+use lib.ListN.{length, get_or, take, drop, length-drop}
+use Rattle.rules.specs.Tables.{leaf, node}
 use Rattle.rules.specs.Views.{children_of}
 use Rattle.rules.specs.Texts.{rows_in}
 use Rattle.rules.proofs.Whole.{table_well_formed}
-use Rattle.descent.specs.Descents.{share_size, before, AtGate, Descends}
+use Rattle.descent.specs.Descents.{before, AtGate, Descends}
 use Rattle.descent.proofs.Shares.{before_none, before_more, share_room, gate_row, leaf_row}
 use Rattle.descent.proofs.Moved.{any_default, to_end, part_members}
 use Rattle.descent.proofs.Going.{Passed, passed_none, passed_leaf, passed_gate, passed_all}

@@ -1,9 +1,7 @@
-use mathlib.Core.Path.{◌≡◌, sym, subst, ◌∙◌}
+use mathlib.Core.Path.{sym, subst, ◌∙◌}
 use Prim.Native.Nat.{◌≤◌}
 use native.Mathlib.Omega.{arith}
 use lib.Dec.{T}
-use lib.ListN.{length}
-use Rattle.rules.specs.Views.{children_of}
 use Rattle.descent.proofs.Moved.{eight_length, eight_at}
 use Rattle.descent.proofs.gate.split_gate.Goals as goal
 

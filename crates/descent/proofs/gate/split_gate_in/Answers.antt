@@ -1,11 +1,10 @@
-use mathlib.Core.Path.{◌≡◌, sym, ap, subst, ◌∙◌}
-use Prim.Native.Nat.{◌-◌, ◌<◌, ◌≤◌}
+use mathlib.Core.Path.{◌≡◌, sym, subst, ◌∙◌}
+use Prim.Native.Nat.{◌-◌}
 use native.Mathlib.Omega.{arith}
 use lib.Dec.{T}
-use lib.ListN.{length, get_or}
+use lib.ListN.{length}
 use Rattle.rules.specs.Views.{children_of}
 use Rattle.splits.specs.Gates.{Balanced}
-use Rattle.descent.specs.Descents.{at_children}
 use Rattle.descent.proofs.Moved.{all_members, same_row}
 use Rattle.descent.proofs.gate.split_gate_in.Goals as goal
 

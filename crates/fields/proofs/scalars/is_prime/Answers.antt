@@ -1,4 +1,4 @@
-use Rattle.std.proofs.Common.{◌*◌, ◌<◌, ◌≤◌, mul-le-mul, mul-le-mul_left, arith}
+use Rattle.std.proofs.Common.{◌≤◌, mul-le-mul, mul-le-mul_left, arith}
 use Rattle.fields.proofs.Primality.{rootless}
 use Rattle.fields.proofs.scalars.is_prime.Goals as goal
 

@@ -1,4 +1,4 @@
-use Rattle.std.proofs.Common.{◌≡◌, ℕ, ◌/◌, ◌%◌, T, sym, ap, ◌∙◌, subst, arith, rules}
+use Rattle.std.proofs.Common.{◌≡◌, ◌/◌, ◌%◌, T, sym, ap, ◌∙◌, subst, arith}
 use Rattle.groups.specs.Monoids.{power}
 use Rattle.groups.specs.Powers.{power_in, power_zero, one_right, even_turn, odd_turn}
 use Rattle.groups.proofs.monoid.power.Goals as goal

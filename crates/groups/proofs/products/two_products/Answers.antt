@@ -1,4 +1,4 @@
-use Rattle.std.proofs.Common.{◌*◌, ◌≤◌, le_trans, mul-le-mul, arith}
+use Rattle.std.proofs.Common.{le_trans, mul-le-mul, arith}
 use Rattle.groups.proofs.products.two_products.Goals as goal
 
 pub overflow_add-result : goal.overflow_add-result

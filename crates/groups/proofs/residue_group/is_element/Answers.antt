@@ -1,4 +1,4 @@
-use Rattle.std.proofs.Common.{◌≡◌, ◌<◌, eqb, ap, ◌∙◌, arith}
+use Rattle.std.proofs.Common.{◌<◌, eqb, ap, ◌∙◌, arith}
 use Rattle.groups.specs.ResidueLaws.{element_test}
 use Rattle.groups.proofs.residue_group.is_element.Goals as goal
 

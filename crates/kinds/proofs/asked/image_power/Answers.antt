@@ -1,4 +1,4 @@
-use Rattle.std.proofs.Common.{◌≡◌, ◌<◌, sym, ap, ◌∙◌, arith}
+use Rattle.std.proofs.Common.{◌<◌, sym, ap, ◌∙◌, arith}
 use Rattle.groups.specs.Monoids.{power}
 use Rattle.kinds.specs.Kinds.{images}
 use Rattle.kinds.specs.Sets.{power_outside}

@@ -1,7 +1,7 @@
-use Rattle.std.proofs.Common.{◌≡◌, ◌+◌, ◌≤◌, [], ◌∷◌, ◌++◌, length, drop, Some, None, sym, refl, ap, ◌∙◌, append-nil, arith}
+use Rattle.std.proofs.Common.{◌≡◌, ◌+◌, [], ◌++◌, drop, Some, sym, ap, ◌∙◌, append-nil, arith}
 use mathlib.Core.Option.{some}
 use lib.ListN.{get_elem?}
-use Rattle.rules.specs.Tables.{Row, leaf, node, leaves}
+use Rattle.rules.specs.Tables.{leaf, node}
 use Rattle.rules.specs.Views.{row_of, children_of}
 use Rattle.rules.specs.Texts.{rows_in}
 use Rattle.rings.specs.Rings.{lines_in}

@@ -1,8 +1,5 @@
-use Rattle.std.proofs.Common.{◌≡◌, ◌+◌, ◌-◌, ◌*◌, ◌/◌, ◌%◌, ◌≤◌, true, eqb, leb, [], ◌∷◌, ◌++◌, length, Some, None, sym, ap, ◌∙◌, arith, rules}
-use Rattle.std.proofs.lemmas.Bool.{le-leb, eq-eqb, and_from}
-use Rattle.refusals.specs.declared.Refusal.TheVariants.{RingLength}
-use Rattle.refusals.specs.Checks.{unless, or_else}
-use Rattle.rings.specs.Rings.{whole, line_at, lines_from, lines_in, line_refusal, lines_refusal, ring_lines, ring_refusal}
+use Rattle.std.proofs.Common.{◌≡◌, ◌+◌, ◌-◌, ◌*◌, ◌/◌, [], ◌∷◌, ◌++◌, length, Some, None, sym, ap, ◌∙◌, arith}
+use Rattle.rings.specs.Rings.{line_at, lines_from, lines_in, line_refusal, lines_refusal, ring_lines}
 use Rattle.rings.proofs.Reading.{passed, refused, gathered, is_whole}
 use Rattle.rings.proofs.ring.read_ring.Goals as goal
 

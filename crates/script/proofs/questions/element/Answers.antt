@@ -1,4 +1,4 @@
-use Rattle.std.proofs.Common.{◌≡◌, T, IfOk, sym, refl, ap, ◌∙◌, subst}
+use Rattle.std.proofs.Common.{T, IfOk, sym, refl, ap, ◌∙◌, subst}
 use Rattle.std.specs.Option.{ok_or}
 use Rattle.words.specs.declared.fault.Expected.TheVariants.{Element}
 use Rattle.words.specs.Words.{fault}

@@ -1,12 +1,9 @@
-use Rattle.std.proofs.Common.{◌≡◌, sym, ap, ◌∙◌, subst, ap₂}
-use Rattle.refusals.specs.Checks.{told}
+use Rattle.std.proofs.Common.{sym, ap, ◌∙◌, subst}
 use Rattle.rules.specs.Texts.{rows_in}
-use Rattle.rings.specs.Rings.{ring_lines, lines_in}
 use Rattle.rings.specs.Pairings.{pair_refusal, paired}
 use Rattle.releases.specs.Entries.{entries}
 use Rattle.releases.specs.Theorems.{Setting}
 use Rattle.releases.proofs.Tabled.{reading_sets}
-use Rattle.settings.specs.Rules.{rule_in}
 use Rattle.settings.proofs.building.build.Goals as goal
 
 pub returns : goal.returns

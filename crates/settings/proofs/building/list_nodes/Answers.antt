@@ -1,13 +1,12 @@
-use Rattle.std.proofs.Common.{◌≡◌, ◌+◌, ◌<◌, ◌≤◌, [], ◌∷◌, ◌++◌, length, drop, sym, refl, ap, ◌∙◌, append_assoc, append-nil, arith}
+use Rattle.std.proofs.Common.{◌≡◌, ◌+◌, [], ◌∷◌, ◌++◌, drop, sym, ap, ◌∙◌, append_assoc, append-nil, arith}
 use mathlib.Core.Option.{some}
 use lib.ListN.{get_elem?}
-use Rattle.rules.specs.Tables.{Row, leaf as key_row, node as gate_row}
+use Rattle.rules.specs.Tables.{leaf as key_row, node as gate_row}
 use Rattle.rules.specs.Views.{row_of, children_of}
 use Rattle.rules.specs.Texts.{rows_in}
-use Rattle.rules.proofs.Whole.{table_well_formed}
 use Rattle.rings.specs.Rings.{lines_in}
 use Rattle.releases.specs.Entries.{gate, entries}
-use Rattle.settings.specs.Nodes.{entry_of, listing}
+use Rattle.settings.specs.Nodes.{listing}
 use Rattle.settings.specs.Buildings.{leaf_of}
 use Rattle.settings.proofs.Listing.{none_left, gate_step, leaf_step, gate_entry}
 use Rattle.settings.proofs.building.list_nodes.Goals as goal

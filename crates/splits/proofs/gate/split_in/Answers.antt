@@ -2,7 +2,7 @@ use Rattle.std.proofs.Common.{◌≡◌, ◌+◌, ◌++◌, length, take, drop, 
 use Rattle.std.proofs.lemmas.List.{length-take-le, take_at}
 use Rattle.polynomials.specs.Polynomials.{Members, Apart}
 use Rattle.splits.proofs.Picked.{length_points, points_members}
-use Rattle.splits.proofs.Splitting.{nodes, values, nodes_in, values_in, nodes_apart, as_long, nodes_are, values_are, same_count, solved_from, is_balanced, is_kept, is_in, is_only}
+use Rattle.splits.proofs.Splitting.{nodes_in, values_in, nodes_apart, as_long, nodes_are, values_are, same_count, solved_from, is_balanced, is_kept, is_in, is_only}
 use Rattle.splits.proofs.gate.split_in.Goals as goal
 
 pub pick-count-requires : goal.pick-count-requires

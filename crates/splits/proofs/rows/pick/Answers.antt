@@ -1,4 +1,4 @@
-use Rattle.std.proofs.Common.{◌≡◌, ◌+◌, ◌<◌, ◌≤◌, ◌++◌, length, take, ap, ◌∙◌, ap₂, arith, take_all}
+use Rattle.std.proofs.Common.{◌≡◌, ◌<◌, ◌≤◌, ◌++◌, length, take, ap, ◌∙◌, ap₂, arith, take_all}
 use Rattle.std.proofs.lemmas.List.{length-append, length-take-le}
 use Rattle.splits.specs.Marks.{marked}
 use Rattle.splits.proofs.Picked.{picked, passed}

@@ -1,4 +1,4 @@
-use Rattle.std.proofs.Common.{◌≡◌, ◌*◌, ◌≤◌, map, length, take}
+use Rattle.std.proofs.Common.{◌≡◌, map, length, take}
 use Rattle.fields.specs.Scalars.{scalar}
 use Rattle.transcripts.proofs.reading.read_challenges.Given as goal
 

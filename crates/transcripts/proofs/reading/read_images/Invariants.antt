@@ -1,4 +1,4 @@
-use Rattle.std.proofs.Common.{◌≡◌, ◌*◌, ◌≤◌, map, length, take}
+use Rattle.std.proofs.Common.{◌≡◌, length, take}
 use Rattle.releases.specs.Transcripts.{images_in}
 use Rattle.transcripts.proofs.reading.read_images.Given as goal
 

@@ -1,5 +1,5 @@
-use Rattle.std.proofs.Common.{◌≡◌, ◌+◌, ◌*◌, ◌<◌, ◌≤◌, [], ◌∷◌, map, length, get_or, take, sym, refl, ap, ◌∙◌, arith, length-set}
-use Rattle.std.proofs.lemmas.List.{take_all, take_more_set, map_more}
+use Rattle.std.proofs.Common.{◌≡◌, ◌<◌, length, sym, ap, ◌∙◌, arith, length-set}
+use Rattle.std.proofs.lemmas.List.{take_all, take_more_set}
 use Rattle.releases.specs.Transcripts.{keys_in}
 use Rattle.transcripts.proofs.Spelled.{keys_more}
 use Rattle.transcripts.proofs.reading.read_keys.Goals as goal

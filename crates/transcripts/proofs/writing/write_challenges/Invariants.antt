@@ -1,4 +1,4 @@
-use Rattle.std.proofs.Common.{◌≡◌, ◌*◌, ◌≤◌, map, length, take}
+use Rattle.std.proofs.Common.{◌≡◌, map, length, take}
 use Rattle.transcripts.specs.Places.{value}
 use Rattle.transcripts.proofs.writing.write_challenges.Given as goal
 

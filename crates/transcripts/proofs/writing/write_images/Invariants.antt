@@ -1,4 +1,4 @@
-use Rattle.std.proofs.Common.{◌≡◌, ◌*◌, ◌≤◌, map, length, take}
+use Rattle.std.proofs.Common.{◌≡◌, ◌*◌, length, take}
 use Rattle.releases.specs.Transcripts.{image_words}
 use Rattle.transcripts.proofs.writing.write_images.Given as goal
 

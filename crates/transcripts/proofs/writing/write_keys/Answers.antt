@@ -1,7 +1,6 @@
-use Rattle.std.proofs.Common.{◌≡◌, ◌+◌, ◌*◌, ◌<◌, ◌≤◌, [], ◌∷◌, map, length, get_or, take, sym, refl, ap, ◌∙◌, ap₂, arith, length-set}
-use Rattle.std.proofs.lemmas.List.{take_all, take_more_set, map_more}
-use borrow.Rule.Slice.PartMut.{put_mid, same_len_mid}
-use Rattle.std.proofs.lemmas.Slice.{take-put_mid}
+use Rattle.std.proofs.Common.{◌*◌, [], ◌∷◌, sym, ap, ◌∙◌, ap₂, arith}
+use Rattle.std.proofs.lemmas.List.{take_all}
+use borrow.Rule.Slice.PartMut.{same_len_mid}
 use Rattle.releases.specs.Transcripts.{key_words}
 use Rattle.transcripts.proofs.Spelled.{keys_written}
 use Rattle.transcripts.proofs.writing.write_keys.Goals as goal

@@ -1,4 +1,4 @@
-use Rattle.std.proofs.Common.{◌≡◌, ◌+◌, ◌*◌, ◌++◌, length, ap, ◌∙◌, ap₂, arith}
+use Rattle.std.proofs.Common.{◌*◌, ◌++◌, length, ap, ◌∙◌, ap₂}
 use lib.ListN.{length-map}
 use Rattle.releases.proofs.Spelling.{image_words_long}
 use Rattle.transcripts.specs.Places.{value}

@@ -1,4 +1,4 @@
-use Rattle.std.proofs.Common.{◌≡◌, sym, arith}
+use Rattle.std.proofs.Common.{sym, arith}
 use Rattle.std.proofs.lemmas.List.{at_drop_all}
 use Rattle.words.proofs.Fronts.{leading_more, leading_stop}
 use Rattle.words.specs.Bytes.{leading}

@@ -1,4 +1,4 @@
-use Rattle.std.proofs.Common.{◌≡◌, ◌+◌, get_or, drop, sym, ◌∙◌, lit<}
+use Rattle.std.proofs.Common.{◌+◌, get_or, drop, sym, ◌∙◌, lit<}
 use Rattle.std.proofs.lemmas.List.{at_drop_all, at_drop_more}
 use Rattle.words.proofs.Numerals.{continued_some, continued_none, continued_fits, continued_all, number_some}
 use Rattle.words.specs.Bytes.{continued}

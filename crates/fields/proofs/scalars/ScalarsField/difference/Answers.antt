@@ -1,4 +1,4 @@
-use Rattle.std.proofs.Common.{◌≡◌, ◌+◌, ◌-◌, ◌%◌, sym, ap, ◌∙◌, rules}
+use Rattle.std.proofs.Common.{◌≡◌, ◌-◌, sym, ap, ◌∙◌}
 use native.Mathlib.Nat.{add-mod-mod}
 use Rattle.fields.specs.Scalars.{scalar}
 use Rattle.fields.specs.Modular.{difference_mod}

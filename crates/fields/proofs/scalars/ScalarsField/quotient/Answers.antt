@@ -1,6 +1,5 @@
-use Rattle.std.proofs.Common.{◌≡◌, ℕ, ◌+◌, ◌-◌, ◌*◌, ◌/◌, ◌%◌, ◌<◌, sym, refl, ap, ◌∙◌, subst, mod-lt, mul_comm, pos_of_ne-zero, zero-mul, arith, ltb→lt, lt→ltb, rules}
-use native.Mathlib.Nat.{zero-mod, mod_self}
-use Rattle.fields.specs.Modular.{difference_mod, product_mod}
+use Rattle.std.proofs.Common.{◌≡◌, ◌*◌, ◌%◌, ◌<◌, sym, ap, ◌∙◌, subst, mod-lt, mul_comm, pos_of_ne-zero, zero-mul, arith, ltb→lt, lt→ltb}
+use native.Mathlib.Nat.{mod_self}
 use Rattle.fields.specs.Scalars.{scalar}
 use Rattle.fields.specs.Residual.{mod_mul_mod}
 use Rattle.fields.proofs.Euclid.{Coprime, Factor, coprime_start, coprime_step, coprime_end, factor_step, factor_end}

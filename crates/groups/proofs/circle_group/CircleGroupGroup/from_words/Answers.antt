@@ -1,5 +1,4 @@
-use Rattle.std.proofs.Common.{◌≡◌, true, false}
-use Rattle.groups.specs.Circles.{circle_element}
+use Rattle.std.proofs.Common.{true, false}
 use Rattle.groups.specs.CircleLaws.{read}
 use Rattle.groups.proofs.circle_group.CircleGroupGroup.from_words.Goals as goal
 

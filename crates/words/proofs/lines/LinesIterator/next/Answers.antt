@@ -1,4 +1,4 @@
-use Rattle.std.proofs.Common.{◌≡◌, ℕ, ◌<◌, List, length, drop, sym, ap, ◌∙◌, subst, rules}
+use Rattle.std.proofs.Common.{ℕ, ◌<◌, List, length, drop, sym, ap, ◌∙◌, subst, rules}
 use Rattle.words.proofs.Fronts.{after_line_shorter}
 use Rattle.words.proofs.lines.LinesIterator.next.Goals as goal
 use Rattle.std.proofs.iter.Next.{firm}
