@@ -7,20 +7,20 @@ ghost use Rattle.refusals.specs.Numbers.{number_of, place_of, parameter_place, b
 use std::fmt;
 
 // The two numbers that make a group: its order q and the modulus p that it counts by.
-#[derive(Clone, Copy)]
+#[derive(Clone, Copy, PartialEq, Eq, Debug)]
 pub enum Parameter {
     Order,
     Modulus,
 }
 
 // The two bases of a group, g and h.
-#[derive(Clone, Copy)]
+#[derive(Clone, Copy, PartialEq, Eq, Debug)]
 pub enum Base {
     First,
     Second,
 }
 
-#[derive(Clone, Copy)]
+#[derive(Clone, Copy, PartialEq, Eq, Debug)]
 pub enum Refusal {
     // not from 11 to 2,147,483,647
     OutOfRange(Parameter),
@@ -128,41 +128,35 @@ impl Refusal {
     {
         match self {
             Refusal::OutOfRange(_) => 1,
-            Refusal::NotListed(_) => 2,
-            Refusal::NotPrime => 2,
+            Refusal::NotListed(_) | Refusal::NotPrime => 2,
             Refusal::NoSuchGroup => 3,
             Refusal::UnfitBase(_) => 4,
-            Refusal::OrdersDiffer => 5,
-            Refusal::TooManyKinds => 5,
+            Refusal::OrdersDiffer | Refusal::TooManyKinds => 5,
             Refusal::TextLength => 6,
             Refusal::Unexpected(_) => 7,
-            Refusal::KeyNumber(_) => 8,
-            Refusal::GateDigit(_) => 8,
-            Refusal::TooDeep(_) => 9,
-            Refusal::TooManyKeys(_) => 9,
-            Refusal::TooManyItems(_) => 9,
-            Refusal::TooFewItems(_) => 9,
+            Refusal::KeyNumber(_) | Refusal::GateDigit(_) => 8,
+            Refusal::TooDeep(_)
+            | Refusal::TooManyKeys(_)
+            | Refusal::TooManyItems(_)
+            | Refusal::TooFewItems(_) => 9,
             Refusal::NotInRing(_) => 10,
             Refusal::RingLength => 11,
             Refusal::NotRising(_) => 12,
             Refusal::NoImage(_) => 13,
-            Refusal::OutputLength => 21,
-            Refusal::KeyCount(_) => 14,
-            Refusal::NoKey(_) => 14,
+            Refusal::KeyCount(_) | Refusal::NoKey(_) => 14,
             Refusal::Unopened(_) => 15,
             Refusal::Unsatisfied => 16,
-            Refusal::TapeLength(_) => 17,
-            Refusal::NoScalar(_) => 17,
+            Refusal::TapeLength(_) | Refusal::NoScalar(_) => 17,
             Refusal::ChallengeRange => 18,
             Refusal::NotHeld => 19,
             Refusal::CountFull => 20,
+            Refusal::OutputLength => 21,
             Refusal::TranscriptLength => 22,
             Refusal::UnfitWord(_) => 23,
             Refusal::Unbalanced(_) => 24,
             Refusal::EquationFails(_) => 25,
             Refusal::SlotFilled(_) => 26,
-            Refusal::NoSlot(_) => 27,
-            Refusal::SlotEmpty(_) => 27,
+            Refusal::NoSlot(_) | Refusal::SlotEmpty(_) => 27,
             Refusal::CommitmentsDiffer(_) => 28,
             Refusal::ChallengesEqual => 29,
         }
@@ -172,44 +166,41 @@ impl Refusal {
         ensures { result ≡ place_of self }
     {
         match self {
-            Refusal::OutOfRange(parameter) => parameter.place(),
-            Refusal::NotListed(parameter) => parameter.place(),
-            Refusal::NotPrime => 1,
-            Refusal::NoSuchGroup => 2,
+            Refusal::OutOfRange(parameter) | Refusal::NotListed(parameter) => parameter.place(),
             Refusal::UnfitBase(base) => base.place(),
-            Refusal::OrdersDiffer => 1,
-            Refusal::TooManyKinds => 2,
-            Refusal::TextLength => 0,
-            Refusal::Unexpected(byte) => byte as u32,
-            Refusal::KeyNumber(byte) => byte as u32,
-            Refusal::GateDigit(byte) => byte as u32,
-            Refusal::TooDeep(byte) => byte as u32,
-            Refusal::TooManyKeys(byte) => byte as u32,
-            Refusal::TooManyItems(byte) => byte as u32,
-            Refusal::TooFewItems(byte) => byte as u32,
-            Refusal::NotInRing(byte) => byte as u32,
-            Refusal::RingLength => 0,
-            Refusal::NotRising(line) => line as u32,
-            Refusal::NoImage(line) => line as u32,
-            Refusal::OutputLength => 0,
-            Refusal::KeyCount(length) => length,
-            Refusal::NoKey(leaf) => leaf as u32,
-            Refusal::Unopened(leaf) => leaf as u32,
-            Refusal::Unsatisfied => 0,
-            Refusal::TapeLength(length) => length,
-            Refusal::NoScalar(index) => index as u32,
-            Refusal::ChallengeRange => 0,
-            Refusal::NotHeld => 0,
-            Refusal::CountFull => 0,
-            Refusal::TranscriptLength => 0,
-            Refusal::UnfitWord(word) => word as u32,
-            Refusal::Unbalanced(entry) => entry as u32,
-            Refusal::EquationFails(leaf) => leaf as u32,
-            Refusal::SlotFilled(slot) => slot,
-            Refusal::NoSlot(slot) => slot,
-            Refusal::SlotEmpty(slot) => slot,
-            Refusal::CommitmentsDiffer(leaf) => leaf as u32,
-            Refusal::ChallengesEqual => 0,
+            Refusal::NotPrime | Refusal::OrdersDiffer => 1,
+            Refusal::NoSuchGroup | Refusal::TooManyKinds => 2,
+            Refusal::Unexpected(place)
+            | Refusal::KeyNumber(place)
+            | Refusal::GateDigit(place)
+            | Refusal::TooDeep(place)
+            | Refusal::TooManyKeys(place)
+            | Refusal::TooManyItems(place)
+            | Refusal::TooFewItems(place)
+            | Refusal::NotInRing(place)
+            | Refusal::NotRising(place)
+            | Refusal::NoImage(place)
+            | Refusal::NoKey(place)
+            | Refusal::Unopened(place)
+            | Refusal::NoScalar(place)
+            | Refusal::UnfitWord(place)
+            | Refusal::Unbalanced(place)
+            | Refusal::EquationFails(place)
+            | Refusal::CommitmentsDiffer(place) => place.into(),
+            Refusal::KeyCount(number)
+            | Refusal::TapeLength(number)
+            | Refusal::SlotFilled(number)
+            | Refusal::NoSlot(number)
+            | Refusal::SlotEmpty(number) => number,
+            Refusal::TextLength
+            | Refusal::RingLength
+            | Refusal::OutputLength
+            | Refusal::Unsatisfied
+            | Refusal::ChallengeRange
+            | Refusal::NotHeld
+            | Refusal::CountFull
+            | Refusal::TranscriptLength
+            | Refusal::ChallengesEqual => 0,
         }
     }
 
