@@ -28,7 +28,7 @@ pub fn key_image<S: LeafKinds>(set: &S, kind: u8, key: (Scalar, Scalar)) -> Imag
     if is_key(set, kind, key) {
         set.image_of_key(kind, key)
     } else {
-        Image((0, 0), (0, 0))
+        Image::ZEROS
     }
 }
 
@@ -54,7 +54,7 @@ pub fn image_product<S: LeafKinds>(set: &S, kind: u8, a: &Image, b: &Image) -> I
     if set.is_image(kind, a) && set.is_image(kind, b) {
         product_of_images(set, kind, a, b)
     } else {
-        Image((0, 0), (0, 0))
+        Image::ZEROS
     }
 }
 
@@ -76,6 +76,6 @@ pub fn image_power<S: LeafKinds>(set: &S, kind: u8, image: &Image, exponent: u32
     } else if exponent == 0 {
         neutral_image(set, kind)
     } else {
-        Image((0, 0), (0, 0))
+        Image::ZEROS
     }
 }

@@ -1,5 +1,10 @@
 // An image of a leaf kind: the words of one element and two zeros, or of two elements.
 ghost use Rattle.std.specs.Prelude.{◌≡◌, ◌&&◌, eqb};
 
-#[derive(Clone, Copy)]
+#[derive(Clone, Copy, Default, PartialEq, Eq)]
 pub struct Image(pub (u32, u32), pub (u32, u32));
+
+impl Image {
+    // What is written where there is no image.
+    pub const ZEROS: Image = Image((0, 0), (0, 0));
+}

@@ -30,7 +30,7 @@ impl<G: Group> Monoid for Single<G> {
         if kind == 1 {
             one_element(&self.group, &self.group.neutral(()))
         } else {
-            Image((0, 0), (0, 0))
+            Image::ZEROS
         }
     }
 

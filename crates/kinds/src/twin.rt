@@ -31,7 +31,7 @@ impl<G: Group> Monoid for Twin<G> {
             let words = self.group.to_words(&self.group.neutral(()));
             Image(words, words)
         } else {
-            Image((0, 0), (0, 0))
+            Image::ZEROS
         }
     }
 
