@@ -1,5 +1,5 @@
 // A list of at most N items, in an array of N places with its length.
-ghost use Rattle.std.specs.Prelude.{⊤, ◌≡◌, ◌+◌, ◌<◌, ◌≤◌, [], ◌∷◌, ◌++◌, length, replicate, slice_set};
+ghost use Rattle.std.specs.Prelude.{⊤, ◌≡◌, ◌+◌, ◌<◌, ◌≤◌, ◌↔◌, IsTrue, [], ◌∷◌, ◌++◌, length, replicate, slice_set};
 
 use std::alloc::AllocError;
 use std::ops::DerefSlice;
@@ -39,6 +39,19 @@ impl<T: Copy, const N: usize> Row<T, N> {
         ensures { result.now ≡ items self.now }
     {
         &self.slots[..self.len]
+    }
+
+    pub fn len(&self) -> usize
+        ensures is { result ≡ length (items self.now) }
+        ensures within { result ≤ N }
+    {
+        self.as_slice().len()
+    }
+
+    pub fn is_empty(&self) -> bool
+        ensures { IsTrue result ↔ (items self.now ≡ []) }
+    {
+        self.as_slice().is_empty()
     }
 
     pub fn push(&mut self, item: T)
