@@ -2,6 +2,7 @@
 #![tactic(auto)]
 
 mod reading;
+mod spelling;
 mod writing;
 
 pub use reading::read_words;

@@ -1,17 +1,18 @@
 // Writing challenges, commitments and responses as a transcript's words.
-ghost use Rattle.std.specs.Prelude.{◌≡◌, ◌+◌, ◌*◌, map, length};
-ghost use Rattle.releases.specs.Transcripts.{image_words, key_words, spelt};
-ghost use Rattle.transcripts.specs.Places.{value};
+ghost use Rattle.std.specs.Prelude.{◌≡◌, ◌+◌, ◌*◌, length, flat_map};
+ghost use Rattle.releases.specs.Transcripts.{image_words, spelt};
 
+use crate::spelling::Spelt;
 use fields::Scalar;
 use kinds::Image;
 
-fn write_challenges(challenges: &[Scalar], out: &mut [u32])
-    requires { length out.old ≡ length challenges.now }
-    ensures { out.new ≡ map value challenges.now }
+// Writes the items into an output of W words each.
+fn write<const W: usize, T: Spelt<W>>(items: &[T], out: &mut [u32])
+    requires { length out.old ≡ W * length items.now }
+    ensures { out.new ≡ flat_map T.spelt items.now }
 {
-    for i in 0..challenges.len() {
-        out[i] = challenges[i].value();
+    for (i, item) in items.iter().enumerate() {
+        out[W * i..W * i + W].copy_from_slice(&item.words());
     }
 }
 
@@ -20,20 +21,7 @@ pub fn write_images(images: &[Image], out: &mut [u32])
     requires { length out.old ≡ 4 * length images.now }
     ensures { out.new ≡ image_words images.now }
 {
-    for i in 0..images.len() {
-        let Image((a, b), (c, d)) = images[i];
-        out[4 * i..4 * i + 4].copy_from_slice(&[a, b, c, d]);
-    }
-}
-
-fn write_keys(keys: &[(Scalar, Scalar)], out: &mut [u32])
-    requires { length out.old ≡ 2 * length keys.now }
-    ensures { out.new ≡ key_words keys.now }
-{
-    for i in 0..keys.len() {
-        let (u, v) = keys[i];
-        out[2 * i..2 * i + 2].copy_from_slice(&[u.value(), v.value()]);
-    }
+    write(images, out);
 }
 
 // Writes a transcript's words into an output of exactly their number.
@@ -46,9 +34,9 @@ pub fn write_words(
     requires { length out.old ≡ length challenges.now + 4 * length commitments.now + 2 * length responses.now }
     ensures { out.new ≡ spelt (record { challenges = challenges.entry.now; commitments = commitments.now; responses = responses.now }) }
 {
-    let n = challenges.len();
-    let l = commitments.len();
-    write_challenges(challenges, &mut out[0..n]);
-    write_images(commitments, &mut out[n..n + 4 * l]);
-    write_keys(responses, &mut out[n + 4 * l..]);
+    let (first, rest) = out.split_at_mut(challenges.len());
+    let (second, third) = rest.split_at_mut(4 * commitments.len());
+    write(challenges, first);
+    write(commitments, second);
+    write(responses, third);
 }

@@ -1,15 +1,18 @@
 use Rattle.std.proofs.Common.{◌+◌, ◌*◌, length, ap, ◌∙◌, arith}
+use Rattle.std.proofs.lemmas.Grind.{common_steps}
 use Rattle.std.proofs.lemmas.Slice.{between_to_end}
-use Rattle.releases.specs.Transcripts.{images_in, keys_in}
+use Rattle.releases.specs.Transcripts.{keys_in}
+use Rattle.transcripts.proofs.Spelled.{scalars_read, images_read, pairs_read}
 use Rattle.transcripts.proofs.reading.read_words.Goals as goal
 
-pub returns : goal.returns
-returns c =
-    let ws = c.args.words.now in
-    let n = length c.args.challenges.now in
-    let l = length c.args.commitments.now in
-    record {
-      challenges = c.read_challenges.ensures;
-      commitments = c.read_images.ensures ∙ ap (images_in l) (between_to_end ws n (length ws) (omega arith));
-      responses = c.read_keys.ensures ∙ ap (keys_in (length c.args.responses.now)) (between_to_end ws (n + 4 * l) (length ws) (omega arith));
-    }
+pub returns-clause-challenges : goal.returns-clause-challenges
+returns-clause-challenges c = grind (arith, common_steps, scalars_read)
+
+pub returns-clause-commitments : goal.returns-clause-commitments
+returns-clause-commitments c = grind (arith, common_steps, between_to_end, images_read)
+
+pub returns-clause-responses : goal.returns-clause-responses
+returns-clause-responses c =
+    let k = length c.args.responses.now in
+    let at = length c.args.challenges.now + 4 * length c.args.commitments.now in
+    c.read-3.ensures ∙ pairs_read k _ ∙ ap (keys_in k) (between_to_end c.args.words.now at (length c.args.words.now) (omega arith))
