@@ -13,6 +13,7 @@ fn read<const W: usize, T: Spelt<W>>(words: &[u32], items: &mut [T])
     requires { W * length items.old ≤ length words.now }
     ensures { items.new ≡ map T.meant (first_chunks W (length items.old) words.now) }
 {
+    // kept: the words by the place of the item; after a zip of `iter_mut` with `chunks_exact` a proof knows nothing of what was written.
     for (i, item) in items.iter_mut().enumerate() {
         *item = T::of_words(&words[W * i..W * i + W]);
     }

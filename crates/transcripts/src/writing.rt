@@ -11,6 +11,7 @@ fn write<const W: usize, T: Spelt<W>>(items: &[T], out: &mut [u32])
     requires { length out.old ≡ W * length items.now }
     ensures { out.new ≡ flat_map T.spelt items.now }
 {
+    // kept: the words by the place of the item; after a loop over `chunks_exact_mut` a proof knows nothing of what was written.
     for (i, item) in items.iter().enumerate() {
         out[W * i..W * i + W].copy_from_slice(&item.words());
     }
