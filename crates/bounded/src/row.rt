@@ -1,5 +1,5 @@
 // A list of at most N items, in an array of N places with its length.
-ghost use Rattle.std.specs.Prelude.{⊤, ◌≡◌, ◌+◌, ◌<◌, ◌≤◌, ◌↔◌, IsTrue, [], ◌∷◌, ◌++◌, length, replicate, slice_set};
+ghost use Rattle.std.specs.Prelude.{⊤, ◌≡◌, ◌+◌, ◌<◌, ◌≤◌, ◌↔◌, IsTrue, [], ◌∷◌, ◌++◌, length, map, replicate, slice_set};
 
 use std::alloc::AllocError;
 use std::ops::DerefSlice;
@@ -70,6 +70,18 @@ impl<T: Copy, const N: usize> Row<T, N> {
         let slots: &mut [T] = &mut self.slots;
         slots[self.len..end].copy_from_slice(more);
         self.len = end;
+    }
+
+    // The row of what a function makes of each item, and this one at the places after them.
+    pub fn map<U: Copy, F: Fn(T) -> U>(&self, blank: U, f: F) -> Row<U, N>
+        requires { F.IsAlwaysCallable f }
+        ensures { (g : T → U) → ((x : T) (y : U) → F.post f x y → y ≡ g x) → items result ≡ map g (items self.now) }
+    {
+        let mut made = Row::blank(blank);
+        for item in self.as_slice() {
+            made.push(f(*item));
+        }
+        made
     }
 
     // Puts an item in the place of another.
