@@ -1,10 +1,10 @@
 // A field by its operations and its laws: what splitting a challenge asks for.
-ghost use Rattle.std.specs.Prelude.{◌≡◌, ℕ, ◌≤◌, T, ◌≢◌};
+ghost use Rattle.std.specs.Prelude.{◌≡◌, ℕ, ◌≤◌, T, ◌≢◌, Decides};
 ghost use Rattle.fields.specs.Fields.{FieldModel, FieldLaws, minus};
 ghost use Rattle.fields.specs.Sizes.{Small};
 
 pub trait Field {
-    type Element: Copy;
+    type Element: Copy + PartialEq;
 
     // what the field is, as one value
     ghost model: { Self → FieldModel Self.Element };
@@ -41,11 +41,11 @@ pub trait Field {
         ensures member { T ((model self.now).member result) }
         ensures divides { (model self.now).times result divisor ≡ dividend };
 
-    fn same(&self, a: Self::Element, b: Self::Element) -> bool
-        ensures { (T result → a ≡ b) × (a ≡ b → T result) };
-
     // what each implementation proves
     ghost lawful: { (s : Self) → FieldLaws (model s) };
+
+    // elements that compare as equal are the same
+    ghost same: { (a b : Self.Element) → Decides (Self.Element.eq a b) (a ≡ b) };
 
     // arrays of elements fit in memory
     ghost small: { Small Self.Element.row };

@@ -19,16 +19,7 @@ pub fn is_prime(q: u32) -> bool
     requires { 2 ≤ q }
     ensures { (T result → Prime q) × (Prime q → T result) }
 {
-    let n = q as u64;
-    for d in 2..65536u64 {
-        if d * d > n {
-            return true;
-        }
-        if n % d == 0 {
-            return false;
-        }
-    }
-    true
+    (2..q.isqrt() + 1).all(|d| q % d != 0)
 }
 
 impl Scalars {
@@ -37,7 +28,7 @@ impl Scalars {
         ensures made { MatchResult result (λ s. s.q ≡ q) (λ e. e ≡ (if in_range q then NotPrime else OutOfRange Order)) }
         ensures exact { MatchResult result (λ _. Prime q) (λ _. T (in_range q) → Prime q → ⊥) }
     {
-        if q < 11 || q > 2147483647 {
+        if !(11..=2147483647).contains(&q) {
             return Err(Refusal::OutOfRange(Parameter::Order));
         }
         if is_prime(q) {
@@ -82,6 +73,8 @@ impl Field for Scalars {
 
     ghost lawful = { λ s. scalar_laws s.q s.prime s.low };
 
+    ghost same = { λ a b. Prim.search rules };
+
     ghost small = { first_of (Prim.search rules, Prim.grind (arith, Self.row.coded.inj)) };
 
     fn zero(&self) -> Scalar {
@@ -122,9 +115,5 @@ impl Field for Scalars {
             newer = next;
         }
         older.1
-    }
-
-    fn same(&self, a: Scalar, b: Scalar) -> bool {
-        a.value() == b.value()
     }
 }
