@@ -45,7 +45,7 @@ fn fork_key(
     requires responses { (response.0.0 < field.now.q) × ((response.1.0 < field.now.q) × ((other.0.0 < field.now.q) × (other.1.0 < field.now.q))) }
     ensures { ForkedKey field.now.q challenges.0 challenges.1 response other result }
 {
-    if field.same(challenges.0, challenges.1) {
+    if challenges.0 == challenges.1 {
         return None;
     }
     let by = field.difference(challenges.0, challenges.1);

@@ -1,8 +1,10 @@
 -- Two balanced gates with different challenges of their own differ at as many children as they want, at least.
 --   shared d j    the points of the places where two lists have the same entry, the first at point j
-use Rattle.std.proofs.Common.{◌≡◌, ℕ, zero, suc, ◌+◌, ◌-◌, ◌<◌, ◌≤◌, T, List, [], ◌∷◌, length, get_or, drop, sym, refl, ap, ◌∙◌, subst, ap₂, suc-le-suc, zero-le, zero-add, add-one, arith}
+use Rattle.std.proofs.Common.{◌≡◌, ℕ, zero, suc, ◌+◌, ◌-◌, ◌<◌, ◌≤◌, Bool, true, false, not, cond, T, List, [], ◌∷◌, length, get_or, sym, refl, ap, ◌∙◌, subst, ap₂, suc-le-suc, zero-le, zero-add, arith}
+use Rattle.std.specs.Prelude.{Decides, filter}
+use Rattle.std.specs.List.{zip}
+use native.Mathlib.Nat.{suc_inj}
 use native.Mathlib.Decide.{dec_le}
-use Rattle.std.proofs.lemmas.List.{drop_more, drop_all}
 use Rattle.fields.specs.Fields.{FieldModel, FieldLaws}
 use Rattle.polynomials.specs.Polynomials.{value, Members, Polynomial}
 use Rattle.polynomials.proofs.Roots.{All, Distinct}
@@ -27,23 +29,19 @@ module _ {E : Type 0} where
   differing_self (same p d) e = differing_self d (cc)
   differing_self (other n d) e = absurd (n (cc))
 
-  -- a turn of the loop that counts
-  pub differing_past : (xs ys : List E) (n : ℕ) → length xs ≡ n → length ys ≡ n → Differing (drop n xs) (drop n ys) 0
-  differing_past xs ys n l k =
-      subst (λ u. Differing u (drop n ys) 0) (sym (drop_all n xs (omega arith))) (subst (λ u. Differing [] u 0) (sym (drop_all n ys (omega arith))) none)
+  -- by what an exact test tells apart
+  differing_more : (x y : E) (xs ys : List E) (p : E × E → Bool) (b : Bool) → Decides b (x ≡ y)
+      → Differing xs ys (length (filter p (zip xs ys))) → Differing (x ∷ xs) (y ∷ ys) (length (cond (not b) ((x, y) ∷ filter p (zip xs ys)) (filter p (zip xs ys))))
+  differing_more x y xs ys p true h d = same (h.0 refl) d
+  differing_more x y xs ys p false h d = other (λ e. let z : false ≡ true = h.1 e in cc) d
 
-  pub differing_same : (xs ys : List E) (j i r : ℕ) (x y : E) → j + 1 ≡ i → j < length xs → j < length ys → x ≡ get_or xs j x → y ≡ get_or ys j y
-      → x ≡ y → Differing (drop i xs) (drop i ys) r → Differing (drop j xs) (drop j ys) r
-  differing_same xs ys j i r x y e l k ex ey s d =
-      subst (λ u. Differing u (drop j ys) r) (sym (drop_more xs j x l ∙ ap₂ ◌∷◌ (sym ex) (ap (λ n. drop n xs) e)))
-      (subst (λ u. Differing (x ∷ drop i xs) u r) (sym (drop_more ys j y k ∙ ap₂ ◌∷◌ (sym ey) (ap (λ n. drop n ys) e))) (same s d))
-
-  pub differing_other : (xs ys : List E) (j i r : ℕ) (x y : E) → j + 1 ≡ i → j < length xs → j < length ys → x ≡ get_or xs j x → y ≡ get_or ys j y
-      → ¬ (x ≡ y) → Differing (drop i xs) (drop i ys) r → Differing (drop j xs) (drop j ys) (r + 1)
-  differing_other xs ys j i r x y e l k ex ey n d =
-      subst (Differing (drop j xs) (drop j ys)) (sym (add-one r))
-      (subst (λ u. Differing u (drop j ys) (suc r)) (sym (drop_more xs j x l ∙ ap₂ ◌∷◌ (sym ex) (ap (λ n. drop n xs) e)))
-      (subst (λ u. Differing (x ∷ drop i xs) u (suc r)) (sym (drop_more ys j y k ∙ ap₂ ◌∷◌ (sym ey) (ap (λ n. drop n ys) e))) (other n d)))
+  pub differing_count : (eq : E → E → Bool) → ((x y : E) → Decides (eq x y) (x ≡ y)) → (xs ys : List E) (n : ℕ)
+      → n ≡ length (filter (λ p. not (eq p.0 p.1)) (zip xs ys)) → length xs ≡ length ys → Differing xs ys n
+  differing_count eq exact [] [] n e l = subst (Differing [] []) (sym e) none
+  differing_count eq exact [] (y ∷ ys) n e l = absurd (omega arith)
+  differing_count eq exact (x ∷ xs) [] n e l = absurd (omega arith)
+  differing_count eq exact (x ∷ xs) (y ∷ ys) n e l =
+      subst (Differing (x ∷ xs) (y ∷ ys)) (sym e) (differing_more x y xs ys (λ p. not (eq p.0 p.1)) (eq x y) (exact x y) (differing_count eq exact xs ys _ refl (suc_inj l)))
 
 shift : (i j : ℕ) → suc i + j ≡ i + suc j
 shift i j = omega arith

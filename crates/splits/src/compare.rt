@@ -12,13 +12,7 @@ pub fn differing<F: Field>(field: &F, a: &[F::Element], b: &[F::Element]) -> usi
     ensures count { Differing a.now b.now result }
     ensures forked { let m = F.Field.model field.now in ((k : ℕ) (own other : F.Element) → k ≤ length a.now → Balanced m k own a.now → Balanced m k other b.now → (own ≢ other) → k ≤ result) }
 {
-    let mut count = 0;
-    for j in (0..a.len()).rev() {
-        if !field.same(a[j], b[j]) {
-            count += 1;
-        }
-    }
-    count
+    a.iter().zip(b).filter(|(x, y)| x != y).count()
 }
 
 // What `balances` answers, with room for what the children's challenges should be.

@@ -1,4 +1,4 @@
-use Rattle.std.proofs.Common.{◌+◌, ◌-◌, ◌%◌, ◌<◌, sym, ◌∙◌, subst, mod-lt, arith, lt→ltb}
+use Rattle.std.proofs.Common.{◌≡◌, ap, rules, tests, ◌+◌, ◌-◌, ◌%◌, ◌<◌, sym, ◌∙◌, subst, mod-lt, arith, lt→ltb}
 use Rattle.fields.specs.declared.scalar.Scalar.{Scalar}
 use Rattle.fields.specs.ScalarLaws.{scalar_laws}
 use Rattle.releases.proofs.Arithmetic.{minus_apart}
@@ -14,7 +14,7 @@ divide_pair-requires c =
     let b = c.args.challenges.1 in
     let r = c.args.response in
     let s = c.args.other in
-    let away = minus_apart laws a b (lt→ltb a.0 q c.requires.challenges.0) (lt→ltb b.0 q c.requires.challenges.1) (λ e. c.if-same.ensures.1 e) in
+    let away = minus_apart laws a b (lt→ltb a.0 q c.requires.challenges.0) (lt→ltb b.0 q c.requires.challenges.1) (λ e. let same : a.0 ≡ b.0 = ap (λ (z : Scalar). z.0) e in search (rules, tests)) in
     record {
       elements = (
         subst (λ (z : Scalar). z.0 < q) (sym c.difference-first.ensures) (mod-lt (r.0.0 + (q - s.0.0) % q) pos),

@@ -1,30 +1,20 @@
-use Rattle.std.proofs.Common.{◌≡◌, ◌-◌, length, drop, sym, refl, subst, arith}
+use Rattle.std.proofs.Common.{◌≡◌, length, not, rules, tests}
+use Rattle.std.specs.Prelude.{filter}
+use Rattle.std.specs.List.{zip}
+use Rattle.std.proofs.lemmas.Iterator.{YieldsList-from_slice, YieldsList-from_zip}
+use Rattle.std.proofs.lemmas.Iterator.Consumers.{count_from_yields_List, YieldsList-from_filter, YieldsList-at}
 use Rattle.splits.specs.Gates.{Differing}
-use Rattle.splits.proofs.Forks.{differing_past, differing_same, differing_other, at_least_differ}
+use Rattle.splits.proofs.Forks.{differing_count, at_least_differ}
 use Rattle.splits.proofs.compare.differing.Goals as goal
-
-pub loop-j-init : goal.loop-j-init
-loop-j-init g c = (omega arith, differing_past c.args.a.now c.args.b.now (length c.args.a.now) refl (sym c.requires.0))
-
-pub loop-j-preserved-then-not-same : goal.loop-j-preserved-then-not-same
-loop-j-preserved-then-not-same g c = (
-  omega arith,
-  differing_other c.args.a.now c.args.b.now (c.loop-j.j - 1) c.loop-j.j c.loop-j.count c.index-a-j.result c.index-b-j.result
-      (omega arith) (omega arith) (omega (arith, c.requires.0)) c.index-a-j.is c.index-b-j.is c.if-not-same.ensures.1 c.loop-j.invariant.1,
-)
-
-pub loop-j-preserved : goal.loop-j-preserved
-loop-j-preserved g c = (
-  omega arith,
-  differing_same c.args.a.now c.args.b.now (c.loop-j.j - 1) c.loop-j.j c.loop-j.count c.index-a-j.result c.index-b-j.result
-      (omega arith) (omega arith) (omega (arith, c.requires.0)) c.index-a-j.is c.index-b-j.is (c.if-not-same.ensures.0 tt) c.loop-j.invariant.1,
-)
 
 pub returns : goal.returns
 returns g c =
     let m = g.F.Field.model c.args.field.now in
+    let eq = g.F.Element.PartialEq.eq in
     let a = c.args.a.now in
     let b = c.args.b.now in
-    let done : c.loop-j.j ≡ 0 = omega arith in
-    let count : Differing a b c.loop-j.count = subst (λ j. Differing (drop j a) (drop j b) c.loop-j.count) done c.loop-j.invariant.1 in
-    record { count = count; forked = at_least_differ m (g.met.F.Field.lawful c.args.field.now) a b c.loop-j.count count c.requires.1 }
+    let n : c.count.result ≡ length (filter (λ p. not (eq p.0 p.1)) (zip a b)) =
+    count_from_yields_List c.filter.result c.count.result c.count.ensures.ran
+    (YieldsList-from_filter _ (λ p. not (eq p.0 p.1)) (YieldsList-at c.filter.ensures.source (YieldsList-from_zip (YieldsList-from_slice a (cc)) (YieldsList-from_slice b (cc)))) c.filter.ensures.closure (λ x r q k. search (rules, tests))) in
+    let count : Differing a b c.count.result = differing_count eq g.met.F.Field.same a b c.count.result n c.requires.0 in
+    record { count = count; forked = at_least_differ m (g.met.F.Field.lawful c.args.field.now) a b c.count.result count c.requires.1 }
