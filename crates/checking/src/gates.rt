@@ -28,7 +28,7 @@ fn gather(children: &Children, challenges: &[Scalar], row: &mut [Scalar])
         let Some(position) = children.get(j) else {
             return;
         };
-        row[j] = challenges[position as usize];
+        row[j] = challenges[*position as usize];
     }
 }
 

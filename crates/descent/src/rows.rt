@@ -27,6 +27,6 @@ pub fn spread_out<E: Copy>(children: &Children, row: &[E], to: &mut [E])
         let Some(position) = children.get(j) else {
             return;
         };
-        to[position as usize] = row[j];
+        to[*position as usize] = row[j];
     }
 }

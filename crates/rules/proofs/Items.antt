@@ -2,19 +2,18 @@
 use Rattle.std.proofs.Common.{◌≡◌, ℕ, suc, ◌+◌, ◌-◌, ◌<◌, ◌≤◌, Bool, true, false, ◌||◌, eqb, ◌⊎◌, List, [], ◌∷◌, ◌++◌, length, get_or, drop, set, Ok, Err, Result, sym, refl, ap, ◌∙◌, ap₂, inl, inr, append_assoc, arith, lit<, ltb-true, le-ltb, lt-ltb, eq-eqb, ne_eqb, le-leb, leb-true, MatchResult}
 use native.Mathlib.Decide.{ℕ_discrete}
 use borrow.Author.Tests.{lt-leb}
-use Rattle.std.proofs.lemmas.List.{drop_more, append-nil, length-append, set_at}
+use Rattle.std.proofs.lemmas.List.{drop_more, append-nil, length-append, length-set, set_at}
 use Rattle.refusals.specs.declared.Refusal.{Refusal}
 use Rattle.refusals.specs.declared.Refusal.TheVariants.{TextLength, Unexpected, TooDeep, TooManyKeys, TooManyItems, TooFewItems}
 use Rattle.rules.specs.declared.entry.Entries.{Entries}
-use Rattle.rules.specs.declared.entry.Children.{Children}
 use Rattle.rules.specs.declared.head.Head.{Head}
 use Rattle.rules.specs.declared.head.Head.TheVariants.{All, Any, Of}
 use Rattle.rules.specs.Grammar.{Rule, Rules, key, gate, none, more, count, text, marked, opening}
 use Rattle.rules.specs.Tables.{size, rows, rows_of, starts, Row, leaf, node}
-use Rattle.rules.specs.Views.{children_of, listing}
+use Rattle.rules.specs.Views.{listing}
 use Rattle.rules.specs.Faults.{item, number, after, Open, opened, State, state, step, finish, run, follow, close, digit, fits, threshold, scan, ◌then◌}
 use Rattle.rules.specs.ReaderSteps.{from, onto, Numbered, Unnumbered, Headed, Begins, Proper, Item, Refused, Items, ItemsRefused}
-use Rattle.rules.proofs.Rows.{gate_length, listing_length}
+use Rattle.rules.proofs.Rows.{gate_length}
 use Rattle.rules.proofs.Steps.{moves, stops, fails, unfinished, run_cons, go, inside, spelling}
 
 or_true : (b : Bool) → (b || true) ≡ true
@@ -42,17 +41,18 @@ leaf_many s at depth k e d z gs l = stops s (state gs k item) at e (lit< tt) (ke
 pub leaf_number : (s : List ℕ) (at depth k : ℕ) {x : Refusal} → get_or s at 0 ≡ 75 → 0 < depth → k < 16 → Unnumbered s (at + 1) x → Refused s at depth k x
 leaf_number s at depth k e d l u gs g = moves s (state gs k item) at e (lit< tt) (key_ok gs k at (omega arith) l) ∙ u gs (k + 1)
 
-pub leaf_read : (s : List ℕ) (at depth : ℕ) (t t' : Entries) (v end : ℕ) → get_or s at 0 ≡ 75 → 0 < depth → t.keys < 16 → Numbered s (at + 1) v end → t'.keys ≡ t.keys + 1 → t'.len ≡ t.len + 1 → listing t' ≡ listing t ++ leaf v at ∷ [] → Item s at depth t t' end
-leaf_read s at depth t t' v end e d l n ks len h = record {
-  rule = key v;
-  few = omega arith;
-  grown = omega arith;
-  sized = len;
-  counted = ks;
-  ends = omega (arith, n.ends);
-  listed = h;
-  account = λ gs g. moves s (state gs t.keys item) at e (lit< tt) (key_ok gs t.keys at (omega arith) l) ∙ n.account gs (t.keys + 1) ∙ ap (λ k. from s (state gs k (after (key v))) end) (sym ks);
-}
+pub leaf_read : (s : List ℕ) (at depth : ℕ) (t t' : Entries) (v end : ℕ) → get_or s at 0 ≡ 75 → 0 < depth → t.keys < 16 → Numbered s (at + 1) v end → t'.keys ≡ t.keys + 1 → listing t' ≡ listing t ++ leaf v at ∷ [] → Item s at depth t t' end
+leaf_read s at depth t t' v end e d l n ks h =
+    let len : length (listing t') ≡ length (listing t) + 1 = ap length h ∙ length-append (listing t) (leaf v at ∷ []) in record {
+      rule = key v;
+      few = omega arith;
+      grown = omega arith;
+      sized = len;
+      counted = ks;
+      ends = omega (arith, n.ends);
+      listed = h;
+      account = λ gs g. moves s (state gs t.keys item) at e (lit< tt) (key_ok gs t.keys at (omega arith) l) ∙ n.account gs (t.keys + 1) ∙ ap (λ k. from s (state gs k (after (key v))) end) (sym ks);
+    }
 
 -- no item begins so
 pub step_unexpected : (gs : List Open) (k at b : ℕ) → (b ≡ 75 → ⊥) → (b ≡ 97 → ⊥) → digit b ≡ false → step (state gs k item) at b ≡ Err (Unexpected at)
@@ -106,27 +106,29 @@ opens All n p e = let q = leb-true 2 n e in rw (ne_eqb n 1 (λ z. omega arith), 
 opens Any n p e = refl
 opens (Of k) n p e = let q = ltb-true k n e in rw (ne_eqb k 1 (λ z. omega arith), ne_eqb k n (λ z. omega arith))
 
-module _ (s : List ℕ) (at depth : ℕ) (t t1 t2 : Entries) (c0 c1 : Children) (h : Head) (inner last : ℕ)
-    (d : 0 < depth) (hd : Headed s at h inner) (empty : c0.count ≡ 0) (same : t1.keys ≡ t.keys)
-    (its : Items s inner (depth - 1) c0 c1 t1 t2 last) where
+module _ (s : List ℕ) (at depth : ℕ) (t t1 t2 : Entries) (c1 : List ℕ) (h : Head) (inner last : ℕ)
+    (d : 0 < depth) (hd : Headed s at h inner) (few : length c1 ≤ 8) (same : t1.keys ≡ t.keys)
+    (its : Items s inner (depth - 1) [] c1 t1 t2 last) where
   to_close : (gs : List Open) → length gs + depth ≡ 8 → from s (state gs t.keys item) at ≡ onto s (close h (more its.one its.others) gs t2.keys last) (last + 1)
-  to_close gs g = hd.account gs t.keys (omega arith) ∙ ap (λ k. from s (state (opened h none ∷ gs) k item) inner) (sym same) ∙ its.account gs h none (sym empty) (omega arith)
+  to_close gs g = hd.account gs t.keys (omega arith) ∙ ap (λ k. from s (state (opened h none ∷ gs) k item) inner) (sym same) ∙ its.account gs h none refl (omega arith)
 
-  number_of : count (more its.one its.others) ≡ c1.count
+  number_of : count (more its.one its.others) ≡ length c1
   number_of = omega (arith, its.many)
 
-  pub gate_unclosed : fits h c1.count ≡ false → Refused s at depth t.keys (TooFewItems last)
+  pub gate_unclosed : fits h (length c1) ≡ false → Refused s at depth t.keys (TooFewItems last)
   gate_unclosed e gs g = to_close gs g ∙ ap (λ r. onto s r (last + 1)) (close_err h (more its.one its.others) gs t2.keys last (ap (fits h) number_of ∙ e))
 
-  pub gate_closed : (t3 : Entries) (blank : Row) → fits h c1.count ≡ true → t1.len ≡ t.len + 1 → t3.len ≡ t2.len → t3.keys ≡ t2.keys → children_of c0 ≡ [] → listing t1 ≡ listing t ++ blank ∷ [] → listing t3 ≡ set (listing t2) t.len (node (threshold h c1.count) (children_of c1)) → Item s at depth t t3 (last + 1)
-  gate_closed t3 blank e len len3 keys3 blankc pushed put =
+  pub gate_closed : (t3 : Entries) (blank : Row) → fits h (length c1) ≡ true → t3.keys ≡ t2.keys → listing t1 ≡ listing t ++ blank ∷ [] → listing t3 ≡ set (listing t2) (length (listing t)) (node (threshold h (length c1)) c1) → Item s at depth t t3 (last + 1)
+  gate_closed t3 blank e keys3 pushed put =
+      let len : length (listing t1) ≡ length (listing t) + 1 = ap length pushed ∙ length-append (listing t) (blank ∷ []) in
+      let len3 : length (listing t3) ≡ length (listing t2) = ap length put ∙ length-set (listing t2) (length (listing t)) (node (threshold h (length c1)) c1) in
       let rs : Rules = more its.one its.others in
       let n = number_of in
       let f : fits h (count rs) ≡ true = ap (fits h) n ∙ e in
-      let w = wants h (count rs) hd.proper (omega (arith, c1.within)) f in
+      let w = wants h (count rs) hd.proper (omega (arith, few, n)) f in
       let k : ℕ = threshold h (count rs) in
-      let row : node (threshold h c1.count) (children_of c1) ≡ node k (starts rs (t.len + 1)) = ap₂ node (ap (threshold h) (sym n)) (its.holds ∙ ap₂ ◌++◌ blankc (ap (starts rs) len)) in
-      let grows : listing t2 ≡ listing t ++ blank ∷ rows_of rs (t.len + 1) (at + 4) = its.listed ∙ ap₂ ◌++◌ pushed (ap₂ (rows_of rs) len hd.ends) ∙ append_assoc (listing t) (blank ∷ []) (rows_of rs (t.len + 1) (at + 4)) in
+      let row : node (threshold h (length c1)) c1 ≡ node k (starts rs (length (listing t) + 1)) = ap₂ node (ap (threshold h) (sym n)) (its.holds ∙ ap (starts rs) len) in
+      let grows : listing t2 ≡ listing t ++ blank ∷ rows_of rs (length (listing t) + 1) (at + 4) = its.listed ∙ ap₂ ◌++◌ pushed (ap₂ (rows_of rs) len hd.ends) ∙ append_assoc (listing t) (blank ∷ []) (rows_of rs (length (listing t) + 1) (at + 4)) in
       record {
         rule = gate k rs;
         few = omega (arith, its.few);
@@ -134,7 +136,7 @@ module _ (s : List ℕ) (at depth : ℕ) (t t1 t2 : Entries) (c0 c1 : Children) 
         sized = omega (arith, its.sized);
         counted = omega (arith, its.counted);
         ends = omega (arith, its.ends, hd.ends, gate_length k rs);
-        listed = put ∙ ap₂ (λ (xs : List Row) (y : Row). set xs t.len y) grows row ∙ set_at (listing t) blank (rows_of rs (t.len + 1) (at + 4)) (node k (starts rs (t.len + 1))) t.len (listing_length t);
+        listed = put ∙ ap₂ (λ (xs : List Row) (y : Row). set xs (length (listing t)) y) grows row ∙ set_at (listing t) blank (rows_of rs (length (listing t) + 1) (at + 4)) (node k (starts rs (length (listing t) + 1))) (length (listing t)) refl;
         account = λ gs g. to_close gs g ∙ ap (λ r. onto s r (last + 1)) (close_ok h rs gs t2.keys last f) ∙ ap (λ m. from s (state gs m (after (gate k rs))) (last + 1)) (sym keys3);
       }
 
@@ -167,12 +169,15 @@ still_open : (gs : List Open) (k : ℕ) (g : Open) (r : Rule) (at : ℕ) → fin
 unfolding finish
 still_open gs k g r at = refl
 
-module _ (s : List ℕ) (at depth : ℕ) (c c1 : Children) (t t1 : Entries) (next : ℕ) (it : Item s at depth t t1 next)
-    (pushed : c1.count ≡ c.count + 1) (held : children_of c1 ≡ children_of c ++ t.len ∷ []) where
-  pub items_full : get_or s next 0 ≡ 44 → c1.count ≡ 8 → ItemsRefused s at depth c.count t.keys (TooManyItems next)
-  items_full e f gs h sofar n g = it.account (opened h sofar ∷ gs) g ∙ stops s (state (opened h sofar ∷ gs) t1.keys (after it.rule)) next e (lit< tt) (comma_full gs t1.keys h sofar it.rule next (omega arith))
+module _ (s : List ℕ) (at depth : ℕ) (c c1 : List ℕ) (t t1 : Entries) (next : ℕ) (it : Item s at depth t t1 next)
+    (held : c1 ≡ c ++ length (listing t) ∷ []) where
+  longer : length c1 ≡ length c + 1
+  longer = ap length held ∙ length-append c (length (listing t) ∷ [])
 
-  pub items_other : (get_or s next 0 ≡ 44 → ⊥) → (get_or s next 0 ≡ 41 → ⊥) → ItemsRefused s at depth c.count t.keys (Unexpected next)
+  pub items_full : get_or s next 0 ≡ 44 → length c1 ≡ 8 → ItemsRefused s at depth (length c) t.keys (TooManyItems next)
+  items_full e f gs h sofar n g = it.account (opened h sofar ∷ gs) g ∙ stops s (state (opened h sofar ∷ gs) t1.keys (after it.rule)) next e (lit< tt) (comma_full gs t1.keys h sofar it.rule next (omega (arith, longer)))
+
+  pub items_other : (get_or s next 0 ≡ 44 → ⊥) → (get_or s next 0 ≡ 41 → ⊥) → ItemsRefused s at depth (length c) t.keys (Unexpected next)
   items_other n m gs h sofar e g = it.account (opened h sofar ∷ gs) g ∙ fails s (state (opened h sofar ∷ gs) t1.keys (after it.rule)) next (other gs t1.keys h sofar it.rule next (get_or s next 0) n m) (still_open gs t1.keys (opened h sofar) it.rule next)
 
   pub items_last : get_or s next 0 ≡ 41 → Items s at depth c c1 t t1 next
@@ -183,25 +188,25 @@ module _ (s : List ℕ) (at depth : ℕ) (c c1 : Children) (t t1 : Entries) (nex
     grown = it.grown;
     sized = omega (arith, it.sized);
     counted = omega (arith, it.counted);
-    many = pushed;
+    many = longer;
     inside = inside s next 41 e (lit< tt);
     ends = omega (arith, it.ends, length-append (text it.rule) []);
     holds = held;
-    listed = it.listed ∙ ap (λ (xs : List Row). listing t ++ xs) (sym (append-nil (rows it.rule t.len at)));
+    listed = it.listed ∙ ap (λ (xs : List Row). listing t ++ xs) (sym (append-nil (rows it.rule (length (listing t)) at)));
     account = λ gs h sofar n g. it.account (opened h sofar ∷ gs) g ∙ from_step s (state (opened h sofar ∷ gs) t1.keys (after it.rule)) next (inside s next 41 e (lit< tt)) ∙ ap (λ b. onto s (step (state (opened h sofar ∷ gs) t1.keys (after it.rule)) next b) (next + 1)) e ∙ ap (λ r. onto s r (next + 1)) (bracket gs t1.keys h sofar it.rule next);
   }
 
-  module _ (e : get_or s next 0 ≡ 44) (less : c1.count < 8) where
-    to_next : (gs : List Open) (h : Head) (sofar : Rules) → count sofar ≡ c.count → suc (length gs) + depth ≡ 8 → from s (state (opened h sofar ∷ gs) t.keys item) at ≡ from s (state (opened h (sofar then more it.rule none) ∷ gs) t1.keys item) (next + 1)
-    to_next gs h sofar n g = it.account (opened h sofar ∷ gs) g ∙ moves s (state (opened h sofar ∷ gs) t1.keys (after it.rule)) next e (lit< tt) (comma_ok gs t1.keys h sofar it.rule next (omega arith))
+  module _ (e : get_or s next 0 ≡ 44) (less : length c1 < 8) where
+    to_next : (gs : List Open) (h : Head) (sofar : Rules) → count sofar ≡ length c → suc (length gs) + depth ≡ 8 → from s (state (opened h sofar ∷ gs) t.keys item) at ≡ from s (state (opened h (sofar then more it.rule none) ∷ gs) t1.keys item) (next + 1)
+    to_next gs h sofar n g = it.account (opened h sofar ∷ gs) g ∙ moves s (state (opened h sofar ∷ gs) t1.keys (after it.rule)) next e (lit< tt) (comma_ok gs t1.keys h sofar it.rule next (omega (arith, longer)))
 
-    counts : (sofar : Rules) → count sofar ≡ c.count → count (sofar then more it.rule none) ≡ c1.count
-    counts sofar n = omega (arith, count_push sofar it.rule)
+    counts : (sofar : Rules) → count sofar ≡ length c → count (sofar then more it.rule none) ≡ length c1
+    counts sofar n = omega (arith, longer, count_push sofar it.rule)
 
-    more_refused : {x : Refusal} → ItemsRefused s (next + 1) depth c1.count t1.keys x → ItemsRefused s at depth c.count t.keys x
+    more_refused : {x : Refusal} → ItemsRefused s (next + 1) depth (length c1) t1.keys x → ItemsRefused s at depth (length c) t.keys x
     more_refused r gs h sofar n g = to_next gs h sofar n g ∙ r gs h (sofar then more it.rule none) (counts sofar n) g
 
-    more_read : (c2 : Children) (t2 : Entries) (end : ℕ) → Items s (next + 1) depth c1 c2 t1 t2 end → Items s at depth c c2 t t2 end
+    more_read : (c2 : List ℕ) (t2 : Entries) (end : ℕ) → Items s (next + 1) depth c1 c2 t1 t2 end → Items s at depth c c2 t t2 end
     more_read c2 t2 end j =
         let rs : Rules = more j.one j.others in
         record {
@@ -211,15 +216,15 @@ module _ (s : List ℕ) (at depth : ℕ) (c c1 : Children) (t t1 : Entries) (nex
           grown = omega (arith, it.grown, j.grown);
           sized = omega (arith, it.sized, j.sized);
           counted = omega (arith, it.counted, j.counted);
-          many = omega (arith, j.many);
+          many = omega (arith, longer, j.many);
           inside = j.inside;
           ends = omega (arith, it.ends, j.ends, length-append (text it.rule) (marked rs 44));
-          holds = j.holds ∙ ap₂ ◌++◌ held (ap (starts rs) it.sized) ∙ append_assoc (children_of c) (t.len ∷ []) (starts rs (t.len + size it.rule));
-          listed = j.listed ∙ ap₂ ◌++◌ it.listed (ap₂ (rows_of rs) it.sized (ap (λ n. n + 1) it.ends)) ∙ append_assoc (listing t) (rows it.rule t.len at) (rows_of rs (t.len + size it.rule) (at + length (text it.rule) + 1));
+          holds = j.holds ∙ ap₂ ◌++◌ held (ap (starts rs) it.sized) ∙ append_assoc (c) (length (listing t) ∷ []) (starts rs (length (listing t) + size it.rule));
+          listed = j.listed ∙ ap₂ ◌++◌ it.listed (ap₂ (rows_of rs) it.sized (ap (λ n. n + 1) it.ends)) ∙ append_assoc (listing t) (rows it.rule (length (listing t)) at) (rows_of rs (length (listing t) + size it.rule) (at + length (text it.rule) + 1));
           account = λ gs h sofar n g. to_next gs h sofar n g ∙ j.account gs h (sofar then more it.rule none) (counts sofar n) g ∙ ap (λ (xs : Rules). onto s (close h xs gs t2.keys end) (end + 1)) (then_push sofar it.rule rs);
         }
 
-    pub items_more : (c2 : Children) (t2 : Entries) (r : Result ℕ Refusal) → MatchResult r (λ n. Items s (next + 1) depth c1 c2 t1 t2 n) (λ x. ItemsRefused s (next + 1) depth c1.count t1.keys x) → MatchResult r (λ n. Items s at depth c c2 t t2 n) (λ x. ItemsRefused s at depth c.count t.keys x)
+    pub items_more : (c2 : List ℕ) (t2 : Entries) (r : Result ℕ Refusal) → MatchResult r (λ n. Items s (next + 1) depth c1 c2 t1 t2 n) (λ x. ItemsRefused s (next + 1) depth (length c1) t1.keys x) → MatchResult r (λ n. Items s at depth c c2 t t2 n) (λ x. ItemsRefused s at depth (length c) t.keys x)
     items_more c2 t2 (Ok n) j = more_read c2 t2 n j
     items_more c2 t2 (Err x) j = more_refused j
 

@@ -1,12 +1,13 @@
--- How many rows and bytes there are, and what the arrays hold.
-use Rattle.std.proofs.Common.{◌≡◌, ℕ, suc, ◌+◌, ◌<◌, ◌≤◌, [], ◌∷◌, ◌++◌, length, get_or, take, refl, ap, ◌∙◌, ap₂, arith, eq-eqb, ne_eqb}
+-- How many rows and bytes there are, and how much a bounded row holds.
+use Rattle.std.proofs.Common.{map, set, ◌≡◌, ℕ, suc, ◌+◌, ◌≤◌, [], ◌∷◌, ◌++◌, length, refl, ap, ◌∙◌, ap₂, length-take, arith, eq-eqb, ne_eqb}
 use native.Mathlib.Decide.{ℕ_discrete}
-use Rattle.std.proofs.lemmas.List.{length-append, length-map, length-take-le, get_or-map, get_or-take}
-use Rattle.rules.specs.declared.entry.Children.{Children}
+use Rattle.std.proofs.lemmas.List.{length-append, length-map, map_push, map-set}
+use Rattle.bounded.specs.Rows.{items}
+use Rattle.bounded.specs.declared.row.Row.{Row}
 use Rattle.rules.specs.declared.entry.Entry.{Entry}
 use Rattle.rules.specs.declared.entry.Entries.{Entries}
+use Rattle.rules.specs.Views.{listing, row_of}
 use Rattle.rules.specs.Grammar.{Rule, Rules, key, gate, none, more, count, text, marked, opening}
-use Rattle.rules.specs.Views.{listing, row_of, children_of}
 use Rattle.rules.specs.Tables.{size, size_of, rows, rows_of, starts}
 
 pub starts_length : (rs : Rules) (p : ℕ) → length (starts rs p) ≡ count rs
@@ -41,20 +42,21 @@ marked_length (more r rs) a b = refl
 pub gate_length : (k : ℕ) (rs : Rules) → length (text (gate k rs)) ≡ length (marked rs 44) + 4
 gate_length k rs = omega (arith, length-append (opening k (count rs)) (marked rs 40 ++ 41 ∷ []), opening_length k (count rs), length-append (marked rs 40) (41 ∷ []), marked_length rs 40 44)
 
-pub listing_length : (t : Entries) → length (listing t) ≡ t.len
+pub within : {A : Type 0} {N : ℕ} (r : Row A N) → length (items r) ≤ N
+within r = omega (arith, length-take r.len r.slots)
+
+pub listing_length : (t : Entries) → length (listing t) ≡ length (items t.list)
 unfolding listing
-listing_length t = length-map (take t.len t.slots) _ ∙ length-take-le t.len t.slots (omega arith)
+listing_length t = length-map (items t.list) row_of
 
-pub listing_at : (t : Entries) (i : ℕ) (d : Entry) → i < t.len → get_or (listing t) i (row_of d) ≡ row_of (get_or t.slots i d)
+pub listing_none : (t : Entries) → items t.list ≡ [] → listing t ≡ []
 unfolding listing
-listing_at t i d l =
-    let long : i < length (take t.len t.slots) = omega (arith, length-take-le t.len t.slots (omega arith)) in
-    get_or-map row_of (take t.len t.slots) i d (row_of d) long ∙ ap row_of (get_or-take t.len t.slots i d l)
+listing_none t h = ap (map row_of) h
 
-pub children_length : (c : Children) → length (children_of c) ≡ c.count
-unfolding children_of
-children_length c = length-take-le c.count c.positions (omega arith)
+pub listing_push : (t t' : Entries) (e : Entry) → items t'.list ≡ items t.list ++ e ∷ [] → listing t' ≡ listing t ++ row_of e ∷ []
+unfolding listing
+listing_push t t' e h = ap (map row_of) h ∙ map_push row_of (items t.list) e
 
-pub child_at : (c : Children) (i : ℕ) → i < c.count → get_or (children_of c) i 0 ≡ get_or c.positions i 0
-unfolding children_of
-child_at c i l = get_or-take c.count c.positions i 0 l
+pub listing_set : (t t' : Entries) (i : ℕ) (e : Entry) → items t'.list ≡ set (items t.list) i e → listing t' ≡ set (listing t) i (row_of e)
+unfolding listing
+listing_set t t' i e h = ap (map row_of) h ∙ map-set row_of (items t.list) i e

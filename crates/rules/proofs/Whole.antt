@@ -50,12 +50,12 @@ module _ (s : List ℕ) (lo : 0 < length s) (hi : length s ≤ 240) (t : Entries
     pub read_trailing : end < length s → Faulty s (Unexpected end)
     read_trailing l = faulty s _ (to_end ∙ from_step s (state [] t1.keys (after it.rule)) end l ∙ ap (λ r. onto s r (end + 1)) (trailing (get_or s end 0)))
 
-    module _ (l : length s ≤ end) (len : t.len ≡ 0) (blank : listing t ≡ []) where
+    module _ (l : length s ≤ end) (blank : listing t ≡ []) where
       told : Legal it.rule × (text it.rule ≡ s)
       told = scanned s it.rule (to_end ∙ ends s (state [] t1.keys (after it.rule)) end l ∙ ending)
 
       listed : listing t1 ≡ table it.rule
-      listed = it.listed ∙ ap₂ ◌++◌ blank (ap (λ p. rows it.rule p 0) len)
+      listed = it.listed ∙ ap₂ ◌++◌ blank (ap (λ p. rows it.rule p 0) (ap length blank))
 
       pub read_lawful : Lawful t1
       read_lawful = record { rule = it.rule; legal = told.0; listed = listed; counted = omega (arith, it.counted) }

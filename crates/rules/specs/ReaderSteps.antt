@@ -9,12 +9,11 @@
 use Rattle.std.specs.Prelude.{◌≡◌, ℕ, suc, ◌+◌, ◌*◌, ◌<◌, ◌≤◌, List, [], ◌∷◌, ◌++◌, length, drop, Ok, Err, Result, ◌≢◌}
 use Rattle.refusals.specs.declared.Refusal.{Refusal}
 use Rattle.rules.specs.declared.entry.Entries.{Entries}
-use Rattle.rules.specs.declared.entry.Children.{Children}
 use Rattle.rules.specs.declared.head.Head.{Head}
 use Rattle.rules.specs.declared.head.Head.TheVariants.{All, Any, Of}
 use Rattle.rules.specs.Grammar.{Rule, Rules, key, none, more, count, text, marked, decimal, keys, keys_of}
 use Rattle.rules.specs.Tables.{size, size_of, rows, rows_of, starts}
-use Rattle.rules.specs.Views.{children_of, listing}
+use Rattle.rules.specs.Views.{listing}
 use Rattle.rules.specs.Faults.{Open, opened, State, state, item, number, after, word, onward, close, run, ◌then◌}
 
 unfoldable pub from : List ℕ → State → ℕ → Result Rule Refusal
@@ -27,7 +26,7 @@ onto s (Err x) at = Err x
 pub record Room (depth : ℕ) (t : Entries) : Type 0 where
   pub shallow : depth ≤ 8
   pub few : t.keys ≤ 16
-  pub room : t.len + depth ≤ 8 + 2 * t.keys
+  pub room : length (listing t) + depth ≤ 8 + 2 * t.keys
 
 pub record Numbered (s : List ℕ) (at v end : ℕ) : Type 0 where
   pub ends : end ≡ at + length (decimal v)
@@ -63,29 +62,29 @@ Unheaded s at x = (gs : List Open) (k : ℕ) → length gs < 8 → from s (state
 pub record Item (s : List ℕ) (at depth : ℕ) (t t' : Entries) (end : ℕ) : Type 0 where
   pub rule : Rule
   pub few : t'.keys ≤ 16
-  pub grown : t'.len + 1 + 2 * t.keys ≤ t.len + 2 * t'.keys
-  pub sized : t'.len ≡ t.len + size rule
+  pub grown : length (listing t') + 1 + 2 * t.keys ≤ length (listing t) + 2 * t'.keys
+  pub sized : length (listing t') ≡ length (listing t) + size rule
   pub counted : t'.keys ≡ t.keys + keys rule
   pub ends : end ≡ at + length (text rule)
-  pub listed : listing t' ≡ listing t ++ rows rule t.len at
+  pub listed : listing t' ≡ listing t ++ rows rule (length (listing t)) at
   pub account : (gs : List Open) → length gs + depth ≡ 8 → from s (state gs t.keys item) at ≡ from s (state gs t'.keys (after rule)) end
 
 abbrev pub Refused : List ℕ → ℕ → ℕ → ℕ → Refusal → Type 0
 Refused s at depth k x = (gs : List Open) → length gs + depth ≡ 8 → from s (state gs k item) at ≡ Err x
 
-pub record Items (s : List ℕ) (at depth : ℕ) (c c' : Children) (t t' : Entries) (end : ℕ) : Type 0 where
+pub record Items (s : List ℕ) (at depth : ℕ) (c c' : List ℕ) (t t' : Entries) (end : ℕ) : Type 0 where
   pub one : Rule
   pub others : Rules
   pub few : t'.keys ≤ 16
-  pub grown : t'.len + count (more one others) + 2 * t.keys ≤ t.len + 2 * t'.keys
-  pub sized : t'.len ≡ t.len + size_of (more one others)
+  pub grown : length (listing t') + count (more one others) + 2 * t.keys ≤ length (listing t) + 2 * t'.keys
+  pub sized : length (listing t') ≡ length (listing t) + size_of (more one others)
   pub counted : t'.keys ≡ t.keys + keys_of (more one others)
-  pub many : c'.count ≡ c.count + count (more one others)
+  pub many : length c' ≡ length c + count (more one others)
   pub inside : end < length s
   pub ends : end + 1 ≡ at + length (marked (more one others) 44)
-  pub holds : children_of c' ≡ children_of c ++ starts (more one others) t.len
-  pub listed : listing t' ≡ listing t ++ rows_of (more one others) t.len at
-  pub account : (gs : List Open) (h : Head) (sofar : Rules) → count sofar ≡ c.count → suc (length gs) + depth ≡ 8 → from s (state (opened h sofar ∷ gs) t.keys item) at ≡ onto s (close h (sofar then more one others) gs t'.keys end) (end + 1)
+  pub holds : c' ≡ c ++ starts (more one others) (length (listing t))
+  pub listed : listing t' ≡ listing t ++ rows_of (more one others) (length (listing t)) at
+  pub account : (gs : List Open) (h : Head) (sofar : Rules) → count sofar ≡ length c → suc (length gs) + depth ≡ 8 → from s (state (opened h sofar ∷ gs) t.keys item) at ≡ onto s (close h (sofar then more one others) gs t'.keys end) (end + 1)
 
 abbrev pub ItemsRefused : List ℕ → ℕ → ℕ → ℕ → ℕ → Refusal → Type 0
 ItemsRefused s at depth n k x = (gs : List Open) (h : Head) (sofar : Rules) → count sofar ≡ n → suc (length gs) + depth ≡ 8 → from s (state (opened h sofar ∷ gs) k item) at ≡ Err x

@@ -1,21 +1,29 @@
-// What a table tells: how many entries and leaves it has, which entry stands at a position, which children a gate has.
-ghost use Rattle.std.specs.Prelude.{◌≡◌, ◌<◌, ◌≤◌, length, MatchOption};
+// What a table tells: its entries and how many leaves it has.
+ghost use Rattle.std.specs.Prelude.{◌≡◌, ◌<◌, ◌≤◌, length, map, MatchOption};
 ghost use Rattle.std.proofs.Math.Option.{some};
 ghost use Rattle.std.proofs.Math.ListN.{get_elem?};
 ghost use Rattle.rules.specs.Tables.{leaves, WellFormed};
-ghost use Rattle.rules.specs.Views.{row_of, children_of};
+ghost use Rattle.rules.specs.Views.{row_of};
 ghost use Rattle.rules.specs.Texts.{rows_in};
 
-use crate::entry::{Children, Entry};
+use crate::entry::Entry;
 use crate::table::Table;
 
 impl Table {
+    // The entries in their order, from 1 to 31.
+    #[tactic(auto, unfolding(crate::specs::Views::listing))]
+    pub fn entries(&self) -> &[Entry]
+        ensures { map row_of result.now ≡ rows_in self.now }
+    {
+        &self.entries.list
+    }
+
     // N, the number of entries, from 1 to 31. Every table is well formed.
     pub fn len(&self) -> usize
         ensures is { result ≡ length (rows_in self.now) }
         ensures formed { WellFormed (rows_in self.now) }
     {
-        self.entries.len
+        self.entries().len()
     }
 
     // L, the number of leaves, from 1 to 16.
@@ -29,32 +37,6 @@ impl Table {
     pub fn entry(&self, position: usize) -> Option<Entry>
         ensures { MatchOption result (length (rows_in self.now) ≤ position) (λ e. get_elem? (rows_in self.now) position ≡ some (row_of e)) }
     {
-        if position < self.entries.len {
-            let slots: &[Entry] = &self.entries.slots;
-            Some(slots[position])
-        } else {
-            None
-        }
-    }
-}
-
-impl Children {
-    // How many they are, from 2 to 8 in a table.
-    pub fn len(&self) -> usize
-        ensures { result ≡ length (children_of self.now) }
-    {
-        self.count as usize
-    }
-
-    // The position of a child, counted from 0, or none past the last.
-    pub fn get(&self, child: usize) -> Option<u8>
-        ensures { MatchOption result (length (children_of self.now) ≤ child) (λ p. get_elem? (children_of self.now) child ≡ some p) }
-    {
-        if child < self.count as usize {
-            let positions: &[u8] = &self.positions;
-            Some(positions[child])
-        } else {
-            None
-        }
+        self.entries().get(position).copied()
     }
 }

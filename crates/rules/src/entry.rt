@@ -1,14 +1,8 @@
-// The entries of a rule's table, in fixed arrays.
-ghost use Rattle.std.specs.Prelude.{◌≡◌, ◌≤◌, length};
+// The entries of a rule's table.
+use bounded::Row;
 
 // The positions of a gate's children, at most eight.
-#[derive(Clone, Copy)]
-pub struct Children {
-    pub(crate) positions: [u8; 8],
-    pub(crate) count: u8,
-    ghost long: { length positions ≡ 8 },
-    ghost within: { count ≤ 8 },
-}
+pub type Children = Row<u8, 8>;
 
 // A leaf has its key's number and the byte of the text at which its K stands;
 // a gate wants `threshold` of its children.
@@ -22,9 +16,6 @@ pub enum Entry {
 // gates close, a text that will be refused can have begun a few more.
 #[derive(Clone, Copy)]
 pub struct Entries {
-    pub(crate) slots: [Entry; 40],
-    pub(crate) len: usize,
+    pub(crate) list: Row<Entry, 40>,
     pub(crate) keys: usize,
-    ghost long: { length slots ≡ 40 },
-    ghost within: { len ≤ 40 },
 }

@@ -4,10 +4,8 @@
 mod access;
 mod again;
 pub mod entry;
-mod filling;
 mod head;
 mod letters;
-mod line;
 mod reading;
 pub mod table;
 mod writing;

@@ -2,19 +2,21 @@
 ghost use Rattle.std.specs.Prelude.{◌≡◌, ◌+◌, ◌<◌, ◌≤◌, length, MatchResult, slice_index};
 ghost use Rattle.rules.specs.ReaderSteps.{Room, Item, Refused, Items, ItemsRefused, Begins};
 ghost use Rattle.rules.specs.Texts.{rows_in, Read, Faulty};
+ghost use Rattle.rules.specs.Views.{children_of};
 
 use crate::entry::{Children, Entries, Entry};
 use crate::letters::{heading, number, peek};
 use crate::table::Table;
+use bounded::Row;
 use refusals::Refusal;
 
-const MOST_BYTES: usize = 240;
+pub(crate) const MOST_BYTES: usize = 240;
 
 const MOST_KEYS: usize = 16;
 
-const MOST_ITEMS: u8 = 8;
+const MOST_ITEMS: usize = 8;
 
-const MOST_DEPTH: u8 = 8;
+pub(crate) const MOST_DEPTH: u8 = 8;
 
 fn leaf(text: &[u8], at: u8, depth: u8, entries: &mut Entries) -> Result<u8, Refusal>
     requires short { length text.now ≤ 240 }
@@ -30,7 +32,7 @@ fn leaf(text: &[u8], at: u8, depth: u8, entries: &mut Entries) -> Result<u8, Ref
         return Err(Refusal::TooManyKeys(at));
     }
     let (key, end) = number(text, at + 1)?;
-    entries.push(Entry::Leaf { key, place: at });
+    entries.list.push(Entry::Leaf { key, place: at });
     entries.keys += 1;
     Ok(end)
 }
@@ -59,18 +61,20 @@ fn gate(text: &[u8], at: u8, depth: u8, entries: &mut Entries) -> Result<u8, Ref
         return Err(Refusal::TooDeep(at));
     }
     let (head, inner) = heading(text, at)?;
-    let position = entries.len;
-    let mut children = Children::new();
+    let position = entries.list.len();
+    let mut children = Row::blank(0);
     // its row is kept free until its children are known
-    entries.push(Entry::Leaf { key: 0, place: 0 });
+    entries.list.push(Entry::Leaf { key: 0, place: 0 });
     let last = items(text, inner, depth - 1, &mut children, entries)?;
-    if !head.may_close(children.count) {
+    let count = children.len() as u8;
+    if !head.may_close(count) {
         return Err(Refusal::TooFewItems(last));
     }
-    entries.put(
+    let threshold = head.wanted(count);
+    entries.list.set(
         position,
         Entry::Gate {
-            threshold: head.wanted(children.count),
+            threshold,
             children,
         },
     );
@@ -88,14 +92,14 @@ fn items(
 ) -> Result<u8, Refusal>
     requires short { length text.now ≤ 240 }
     requires room { Room depth entries.old }
-    requires less { children.old.count < 8 }
-    ensures { MatchResult result (λ n. Items text.now at depth children.old children.new entries.old entries.new n) (λ x. ItemsRefused text.now at depth children.old.count entries.old.keys x) }
+    requires less { length (children_of children.old) < 8 }
+    ensures { MatchResult result (λ n. Items text.now at depth (children_of children.old) (children_of children.new) entries.old entries.new n) (λ x. ItemsRefused text.now at depth (length (children_of children.old)) entries.old.keys x) }
 {
-    children.push(entries.len as u8);
+    children.push(entries.list.len() as u8);
     let next = item(text, at, depth, entries)?;
     match peek(text, next) {
         ',' => {
-            if children.count == MOST_ITEMS {
+            if children.len() == MOST_ITEMS {
                 return Err(Refusal::TooManyItems(next));
             }
             items(text, next + 1, depth, children, entries)
@@ -110,10 +114,13 @@ fn items(
 pub fn read(text: &[u8]) -> Result<Table, Refusal>
     ensures { MatchResult result (λ t. Read text.now (rows_in t)) (λ x. Faulty text.now x) }
 {
-    if text.len() == 0 || text.len() > MOST_BYTES {
+    if text.is_empty() || text.len() > MOST_BYTES {
         return Err(Refusal::TextLength);
     }
-    let mut entries = Entries::new();
+    let mut entries = Entries {
+        list: Row::blank(Entry::Leaf { key: 0, place: 0 }),
+        keys: 0,
+    };
     let end = item(text, 0, MOST_DEPTH, &mut entries)?;
     if (end as usize) < text.len() {
         return Err(Refusal::Unexpected(end));

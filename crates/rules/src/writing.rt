@@ -1,133 +1,105 @@
 // Writes the text of a rule from its table.
-ghost use Rattle.std.specs.Prelude.{◌≡◌, ◌+◌, ◌<◌, ◌≤◌, [], ◌∷◌, ◌++◌, length, MatchResult};
+ghost use Rattle.std.specs.Prelude.{◌≡◌, ◌+◌, ◌<◌, ◌≤◌, [], ◌∷◌, ◌++◌, length, map, MatchResult};
+ghost use Rattle.bounded.specs.Rows.{items};
 ghost use Rattle.rules.specs.Grammar.{decimal, opening};
-ghost use Rattle.rules.specs.WriterSteps.{written, CanSpell, Spelt, CanSpellItems, ItemsSpelt};
+ghost use Rattle.rules.specs.Views.{row_of};
+ghost use Rattle.rules.specs.WriterSteps.{mark_at, CanSpell, Spelt, CanSpellItems, ItemsSpelt};
 ghost use Rattle.rules.specs.Texts.{rows_in, Written, TextHasLength, Unfit};
 
-use crate::entry::{Children, Entries, Entry};
-use crate::line::Line;
+use crate::entry::Entry;
+use crate::reading::{MOST_BYTES, MOST_DEPTH};
 use crate::table::Table;
+use bounded::Row;
 use refusals::Refusal;
 
-impl Line {
-    fn new() -> Line
-        ensures { written result ≡ [] }
-    {
-        Line {
-            bytes: [0; 240],
-            len: 0,
-        }
-    }
+// A text as it is written.
+type Text = Row<u8, MOST_BYTES>;
 
-    fn push(&mut self, byte: u8)
-        requires { length (written self.old) < 240 }
-        ensures { written self.new ≡ written self.old ++ byte ∷ [] }
-    {
-        self.bytes[self.len] = byte;
-        self.len += 1;
-    }
-
-    fn push3(&mut self, a: u8, b: u8, c: u8)
-        requires { length (written self.old) + 3 ≤ 240 }
-        ensures { written self.new ≡ written self.old ++ a ∷ b ∷ c ∷ [] }
-    {
-        self.push(a);
-        self.push(b);
-        self.push(c);
-    }
-}
-
-fn spell_number(n: u8, line: &mut Line)
-    requires { length (written line.old) + length (decimal n) ≤ 240 }
-    ensures { written line.new ≡ written line.old ++ decimal n }
+#[tactic(auto, unfolding(crate::specs::Grammar::decimal))]
+fn spell_number(n: u8, text: &mut Text)
+    requires { length (items text.old) + length (decimal n) ≤ 240 }
+    ensures { items text.new ≡ items text.old ++ decimal n }
 {
     if n < 10 {
-        line.push(48 + n);
+        text.push(b'0' + n);
     } else if n < 100 {
-        line.push(48 + n / 10);
-        line.push(48 + n % 10);
+        text.extend_from_slice(&[b'0' + n / 10, b'0' + n % 10]);
     } else {
-        line.push3(48 + n / 100, 48 + n / 10 % 10, 48 + n % 10);
+        text.extend_from_slice(&[b'0' + n / 100, b'0' + n / 10 % 10, b'0' + n % 10]);
     }
 }
 
 // How a gate that wants k of n items begins.
-fn spell_opening(k: u8, n: u8, line: &mut Line)
-    requires { (k ≤ n) × ((n ≤ 8) × (length (written line.old) + 3 ≤ 240)) }
-    ensures { written line.new ≡ written line.old ++ opening k n }
+#[tactic(auto, unfolding(crate::specs::Grammar::opening))]
+fn spell_opening(k: u8, n: usize, text: &mut Text)
+    requires { (k ≤ n) × ((n ≤ 8) × (length (items text.old) + 3 ≤ 240)) }
+    ensures { items text.new ≡ items text.old ++ opening k n }
 {
     if k == 1 {
-        line.push3('a' as u8, 'n' as u8, 'y' as u8);
-    } else if k == n {
-        line.push3('a' as u8, 'l' as u8, 'l' as u8);
+        text.extend_from_slice(b"any");
+    } else if k as usize == n {
+        text.extend_from_slice(b"all");
     } else {
-        line.push3(48 + k, 'o' as u8, 'f' as u8);
+        text.extend_from_slice(&[b'0' + k, b'o', b'f']);
     }
+}
+
+// The bracket before a gate's first item, or the comma before another.
+fn spell_mark(i: usize, text: &mut Text)
+    requires { length (items text.old) < 240 }
+    ensures { items text.new ≡ items text.old ++ mark_at i ∷ [] }
+{
+    text.push(if i == 0 { b'(' } else { b',' });
 }
 
 // The item whose first entry stands at a position.
 #[cycle(spell_spell_items)]
-fn spell(entries: &Entries, position: usize, depth: u8, line: &mut Line)
-    requires { CanSpell entries.now position depth line.old }
-    ensures { Spelt entries.now position depth line.old line.new }
+fn spell(entries: &[Entry], position: usize, depth: u8, text: &mut Text)
+    requires { CanSpell (map row_of entries.now) position depth (items text.old) }
+    ensures { Spelt (map row_of entries.now) position depth (items text.old) (items text.new) }
 {
-    let slots: &[Entry] = &entries.slots;
-    let entry = &slots[position];
-    match entry {
+    match &entries[position] {
         Entry::Leaf { key, place: _ } => {
-            line.push('K' as u8);
-            spell_number(*key, line);
+            text.push(b'K');
+            spell_number(*key, text);
         }
         Entry::Gate {
             threshold,
             children,
         } => {
-            spell_opening(*threshold, children.count, line);
-            spell_items(entries, children, 0, '(' as u8, depth - 1, line);
-            line.push(')' as u8);
+            spell_opening(*threshold, children.len(), text);
+            spell_items(entries, children, depth - 1, text);
+            text.push(b')');
         }
     }
 }
 
-// The items of a gate from one on, each after its mark.
+// The items of a gate, the first after its bracket and the others each after a comma.
 #[cycle(spell_spell_items)]
-fn spell_items(
-    entries: &Entries,
-    children: &Children,
-    from: u8,
-    mark: u8,
-    depth: u8,
-    line: &mut Line,
-)
-    requires { CanSpellItems entries.now children.now from mark depth line.old }
-    ensures { ItemsSpelt entries.now children.now from mark depth line.old line.new }
+fn spell_items(entries: &[Entry], children: &[u8], depth: u8, text: &mut Text)
+    requires { CanSpellItems (map row_of entries.now) children.now 40 depth (items text.old) }
+    ensures { ItemsSpelt (map row_of entries.now) children.now 40 depth (items text.old) (items text.new) }
 {
-    if from < children.count {
-        line.push(mark);
-        spell(
-            entries,
-            children.positions[from as usize] as usize,
-            depth,
-            line,
-        );
-        spell_items(entries, children, from + 1, ',' as u8, depth, line);
+    for (i, child) in children.iter().enumerate() {
+        spell_mark(i, text);
+        spell(entries, *child as usize, depth, text);
     }
 }
 
 // The text of a table.
-fn spelled(table: &Table) -> Line
-    ensures { Written (rows_in table.now) (written result) }
+fn spelled(table: &Table) -> Text
+    ensures { Written (rows_in table.now) (items result) }
 {
-    let mut line = Line::new();
-    spell(&table.entries, 0, 8, &mut line);
-    line
+    let mut text = Text::blank(0);
+    spell(table.entries(), 0, MOST_DEPTH, &mut text);
+    text
 }
 
 // How many bytes the text of a table has.
 pub fn text_length(table: &Table) -> usize
     ensures { TextHasLength (rows_in table.now) result }
 {
-    spelled(table).len
+    spelled(table).len()
 }
 
 // Writes the text of a table into an output of exactly its length.
@@ -135,12 +107,10 @@ pub fn text_length(table: &Table) -> usize
 pub fn write(table: &Table, out: &mut [u8]) -> Result<(), Refusal>
     ensures { MatchResult result (λ _. Written (rows_in table.now) out.new) (λ x. Unfit (rows_in table.now) out.old out.new x) }
 {
-    let line = spelled(table);
-    if out.len() != line.len {
+    let text = spelled(table);
+    if out.len() != text.len() {
         return Err(Refusal::OutputLength);
     }
-    for i in 0..line.len {
-        out[i] = line.bytes[i];
-    }
+    out.copy_from_slice(&text);
     Ok(())
 }

@@ -40,7 +40,7 @@ mod tests {
             Entry::Gate {
                 threshold,
                 children,
-            } => (threshold, children.len(), children.get(child).unwrap_or(0)),
+            } => (threshold, children.len(), children.get(child).copied().unwrap_or(0)),
         }
     }
 

@@ -29,21 +29,17 @@ fn write_spaces<W: fmt::Write>(f: &mut fmt::Formatter<W>, count: u32) -> fmt::Re
 }
 
 fn write_children<W: fmt::Write>(f: &mut fmt::Formatter<W>, children: &Children) -> fmt::Result {
-    for j in 0..children.len() {
-        if let Some(position) = children.get(j) {
-            write!(f, " {position}")?;
-        }
+    for position in children.as_slice() {
+        write!(f, " {position}")?;
     }
     Ok(())
 }
 
 // Notes that the children stand one further in than their gate.
 fn note_depths(depths: &mut [u8], children: &Children, depth: u8) {
-    for j in 0..children.len() {
-        if let Some(position) = children.get(j) {
-            if let Some(slot) = depths.get_mut(position as usize) {
-                *slot = depth.saturating_add(1);
-            }
+    for position in children.as_slice() {
+        if let Some(slot) = depths.get_mut(*position as usize) {
+            *slot = depth.saturating_add(1);
         }
     }
 }

@@ -1,4 +1,5 @@
-use Rattle.std.proofs.Common.{◌+◌, ◌-◌, ◌*◌}
+use Rattle.std.proofs.Common.{◌+◌, ◌-◌, ◌*◌, length}
+use Rattle.rules.specs.Views.{children_of}
 use Rattle.rules.proofs.reading.+gate_item_items.Given as goal
 
 abbrev pub decreases-gate : goal.decreases-gate
@@ -8,4 +9,4 @@ abbrev pub decreases-item : goal.decreases-item
 decreases-item l = l.depth * 16 + 1
 
 abbrev pub decreases-items : goal.decreases-items
-decreases-items l = l.depth * 16 + 2 + (8 - l.children.now.count)
+decreases-items l = l.depth * 16 + 2 + (8 - length (children_of l.children.now))

@@ -1,16 +1,13 @@
-use Rattle.std.proofs.Common.{sym, ap, ◌∙◌, arith}
-use mathlib.Core.Option.{some}
-use Rattle.rules.specs.Views.{listing, row_of}
-use Rattle.rules.proofs.Lists.{found}
-use Rattle.rules.proofs.Rows.{listing_length, listing_at}
+use Rattle.std.proofs.Common.{◌≡◌, ◌≤◌, length, subst, MatchOption, option_copied}
+use Rattle.std.proofs.Math.Option.{some}
+use Rattle.std.proofs.Math.ListN.{get_elem?}
+use Rattle.rules.specs.Views.{row_of}
+use Rattle.rules.proofs.Lists.{looked_up}
 use Rattle.rules.proofs.table.Table.entry.Goals as goal
 
-pub returns-then-position-self : goal.returns-then-position-self
-returns-then-position-self c =
-    let t = c.args.self.now.entries in
-    let e = c.index-slots-position.result in
-    found (listing t) c.args.position (row_of e) (omega (arith, listing_length t))
-    ∙ ap some (listing_at t c.args.position e c.if-position-self.true ∙ ap row_of (sym c.index-slots-position.is))
-
-pub returns-else-position-self : goal.returns-else-position-self
-returns-else-position-self c = omega (arith, listing_length c.args.self.now.entries)
+pub returns : goal.returns
+returns c =
+    let at = c.args.position in
+    rw c.copied.ensures
+    (subst (λ es. MatchOption (option_copied c.get.result) (length es ≤ at) (λ e. get_elem? es at ≡ some (row_of e))) c.entries.ensures
+    (looked_up row_of c.entries.result.now at c.get.result c.get.ensures.lookup))
