@@ -5,7 +5,7 @@ use native.Mathlib.Decide.{dec_lt}
 use lib.ListN.{get_elem?}
 use Rattle.refusals.specs.declared.Refusal.{Refusal}
 use Rattle.kinds.specs.declared.image.Image.{Image}
-use Rattle.rules.specs.declared.entry.Children.{Children}
+use Rattle.bounded.specs.declared.row.Row.{Row as Bounded}
 use Rattle.rules.specs.Views.{children_of}
 use Rattle.releases.specs.Entries.{Entry, leaf, gate, LeafAt, GateAt, to_leaf, number, leaves}
 use Rattle.releases.specs.Calls.{AtLeaf, AtGate}
@@ -38,7 +38,7 @@ pub leaf_entry : (rule : List Entry) (i kind : ℕ) (s : Image) (n : Node) → g
 unfolding entry_of
 leaf_entry rule i kind s n h is = h ∙ ap (λ x. some (entry_of x)) is
 
-pub gate_entry : (rule : List Entry) (i k : ℕ) (cs : Children) (n : Node) → get_elem? rule i ≡ some (entry_of n) → n ≡ Gate k cs → GateAt rule i k (children_of cs)
+pub gate_entry : (rule : List Entry) (i k : ℕ) (cs : Bounded ℕ 8) (n : Node) → get_elem? rule i ≡ some (entry_of n) → n ≡ Gate k cs → GateAt rule i k (children_of cs)
 unfolding entry_of
 gate_entry rule i k cs n h is = h ∙ ap (λ x. some (entry_of x)) is
 

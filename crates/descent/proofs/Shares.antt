@@ -5,7 +5,7 @@ use mathlib.Core.Option.{some}
 use Prim.Native.Nat.{ℕ, zero, suc, ◌+◌, ◌-◌, ◌<◌, ◌≤◌}
 use native.Mathlib.Omega.{arith}
 use lib.ListN.{length, get_elem?}
-use Rattle.rules.specs.declared.entry.Children.{Children}
+use Rattle.bounded.specs.declared.row.Row.{Row as Bounded}
 use Rattle.rules.specs.declared.entry.Entry.{Entry}
 use Rattle.rules.specs.declared.entry.Entry.TheVariants.{Leaf, Gate}
 use Rattle.rules.specs.Tables.{Row, leaf, node}
@@ -38,7 +38,7 @@ pub share_room : (es : List Row) (i k n : ℕ) (cs : List ℕ) → get_elem? es 
 share_room es i k n cs at h fits = omega (arith, before_more es i (node k cs) at, before_rises es (i + 1) (length es) (omega arith))
 
 -- the row of an entry that was found to be a gate, or a leaf
-pub gate_row : (es : List Row) (i k : ℕ) (c : Children) (e : Entry) → get_elem? es i ≡ some (row_of e) → e ≡ Gate k c → get_elem? es i ≡ some (node k (children_of c))
+pub gate_row : (es : List Row) (i k : ℕ) (c : Bounded ℕ 8) (e : Entry) → get_elem? es i ≡ some (row_of e) → e ≡ Gate k c → get_elem? es i ≡ some (node k (children_of c))
 unfolding row_of
 gate_row es i k c e h is = h ∙ ap (λ x. some (row_of x)) is
 

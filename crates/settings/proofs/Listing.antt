@@ -6,7 +6,7 @@ use Rattle.std.proofs.lemmas.List.{length-map, length-take-le, get_or-map, get_o
 use Rattle.rules.specs.Tables.{Row, leaf as key_row, node as gate_row, leaves as keys}
 use Rattle.rings.specs.declared.line.Line.{Line}
 use Rattle.releases.specs.Entries.{gate, entries, leaves}
-use Rattle.rules.specs.declared.entry.Children.{Children}
+use Rattle.bounded.specs.declared.row.Row.{Row as Bounded}
 use Rattle.rules.specs.Views.{children_of}
 use Rattle.settings.specs.declared.node.Node.{Node}
 use Rattle.settings.specs.declared.node.Node.TheVariants.{Gate}
@@ -55,6 +55,6 @@ leaves_kept (key_row n b ∷ rows) [] = let r = leaves_kept rows [] in omega ari
 leaves_kept (key_row n b ∷ rows) (l ∷ lines) = let r = leaves_kept rows lines in omega arith
 leaves_kept (gate_row k cs ∷ rows) lines = let r = leaves_kept rows lines in omega arith
 
-pub gate_entry : (k : ℕ) (c : Children) → entry_of (Gate k c) ≡ gate k (children_of c)
+pub gate_entry : (k : ℕ) (c : Bounded ℕ 8) → entry_of (Gate k c) ≡ gate k (children_of c)
 unfolding entry_of
 gate_entry k c = refl

@@ -11,7 +11,7 @@ split_gate_in-requires g c =
     let n = c.len.result in
     let few : n ≤ 8 = omega (arith, c.len.ensures, c.requires.sizes) in
     record {
-      sizes = (c.requires.sizes.0, (c.requires.sizes.1.0, (c.requires.sizes.1.1, eight_length n c.args.own few ∙ c.len.ensures)));
+      sizes = (c.requires.sizes.0, (c.requires.sizes.1.0, (c.requires.sizes.1.1, eight_length n c.args.own few ∙ c.len.ensures.is)));
       elements = (
         c.requires.elements.0,
         (

@@ -3,19 +3,20 @@ use Prim.Native.Nat.{◌<◌}
 use native.Mathlib.Omega.{arith}
 use lib.ListN.{length, get_or, set, length-set}
 use borrow.Author.Rules.{rules}
+use Rattle.rules.proofs.Lists.{item_at}
 use Rattle.rules.specs.Views.{children_of}
 use Rattle.descent.proofs.Moved.{taken, placed_more, kept_more}
 use Rattle.descent.proofs.rows.spread_out.Goals as goal
 
 pub bounds-to-position : goal.bounds-to-position
 bounds-to-position g c =
-    let t = taken (children_of c.args.children.now) c.loop-j.j c.in-Some.position 0 c.in-Some.ensures in
+    let t = taken (children_of c.args.children.now) c.loop-j.j c.in-Some.position.now 0 (item_at c.deref.result.now (children_of c.args.children.now) c.loop-j.j c.in-Some.position c.in-Some.ensures.lookup c.deref.ensures) in
     omega (arith, c.requires.inside c.loop-j.j t.0, t.1, c.loop-j.invariant.0)
 
 pub offset_bounds-to-position : goal.offset_bounds-to-position
 offset_bounds-to-position g c =
-    let t = taken (children_of c.args.children.now) c.loop-j.j c.in-Some.position 0 c.in-Some.ensures in
-    let h : c.in-Some.position < length c.loop-j.to = omega (arith, c.requires.inside c.loop-j.j t.0, t.1, c.loop-j.invariant.0) in
+    let t = taken (children_of c.args.children.now) c.loop-j.j c.in-Some.position.now 0 (item_at c.deref.result.now (children_of c.args.children.now) c.loop-j.j c.in-Some.position c.in-Some.ensures.lookup c.deref.ensures) in
+    let h : c.in-Some.position.now < length c.loop-j.to = omega (arith, c.requires.inside c.loop-j.j t.0, t.1, c.loop-j.invariant.0) in
     search rules
 
 pub loop-j-preserved : goal.loop-j-preserved
@@ -27,7 +28,7 @@ loop-j-preserved g c =
     let j = c.loop-j.j in
     let x = c.index-row-j.result in
     let inv = c.loop-j.invariant in
-    let t = taken cs j c.in-Some.position 0 c.in-Some.ensures in
+    let t = taken cs j c.in-Some.position.now 0 (item_at c.deref.result.now (children_of c.args.children.now) c.loop-j.j c.in-Some.position c.in-Some.ensures.lookup c.deref.ensures) in
     let room : get_or cs j 0 < length ys = omega (arith, c.requires.inside j t.0, inv.0) in
     let inside : j < length row = c.loop-j-test.true in (
       simp length-set inv.0,
