@@ -1,18 +1,13 @@
 -- The circle modulo p, and its pairs whose q-th power is (1, 0).
-use Rattle.std.specs.Prelude.{◌≡◌, ℕ, ◌+◌, ◌-◌, ◌*◌, ◌%◌, ◌<◌, ◌≤◌, Bool, cond, not, ◌&&◌, T, Some, None, ◌==◌, nat_lt, refl}
+use Rattle.std.specs.Prelude.{◌≡◌, ℕ, ◌+◌, ◌-◌, ◌*◌, ◌%◌, ◌<◌, ◌≤◌, ◌&&◌, T, ◌==◌, nat_lt, refl}
 use Rattle.std.proofs.Common.{sym, ap, ap₂, subst, ◌∙◌, mod-lt, mod-eq_of_lt, one-mul, zero-mul, add-zero, le_of_lt, arith, ltb→lt, lt→ltb, eqb→eq}
 use Rattle.std.proofs.Math.Nat.{mod-mod, add-mul-mod_self_left}
 use Rattle.std.specs.Float.Ieee.Fits.{and_i, and_l, and_r}
-use Rattle.refusals.specs.declared.Refusal.TheVariants.{NoSuchGroup, UnfitBase}
-use Rattle.refusals.specs.declared.Base.TheVariants.{First, Second}
 use Rattle.fields.specs.Residual.{same_sum}
 use Rattle.groups.specs.Monoids.{MonoidLaws, power}
-use Rattle.groups.specs.Groups.{GroupLaws}
-use Rattle.groups.specs.Listed.{number_refusal}
-use Rattle.groups.specs.Circles.{Pair, pair, circle_product, circle_modulo, is_one, circle_element, circle_elements, circle_model, circle_base, circle_refusal}
-use Rattle.groups.specs.Torsion.{Torsion, torsion_laws, torsion_ordered}
-use Rattle.groups.specs.Passing.{Quiet, passes, quiet_both, picks, picked}
-use Rattle.groups.specs.Listing.{Numbers, numbers}
+use Rattle.groups.specs.Ambients.{AmbientLaws}
+use Rattle.groups.specs.Circles.{Pair, pair, circle_product, circle_modulo, is_one, circle_element, circle}
+use Rattle.groups.specs.Torsion.{Torsion}
 use Rattle.groups.specs.Quadratic.{low, high, low_assoc, high_assoc, low_comm, high_comm, same_low, same_high, negated}
 
 abbrev Inside : ℕ → Pair → Type 0
@@ -112,37 +107,12 @@ module _ (p : ℕ) (wide : 1 < p) where
         back = λ x h e. and_i (nat_lt x.0.0 p && nat_lt x.1.0 p) (is_one (n x)) h (subst (λ (u : Pair). T (is_one u)) (sym e) tt);
       }
 
--- what the code reads, from the answer t of its test
-pub read : (q p : ℕ) (x : Pair) (w : ℕ × ℕ) (t : Bool) → x.0.0 ≡ w.0 → x.1.0 ≡ w.1 → t ≡ circle_element q p x
-    → cond t (Some x) None ≡ cond (circle_element q p (pair w.0 w.1)) (Some (pair w.0 w.1)) None
-read q p x w t e f test =
-    ap (λ b. cond b (Some x) None) test ∙ ap (λ (u : Pair). cond (circle_element q p u) (Some u) None) (both x.0.0 x.1.0 w.0 w.1 e f)
-
-module _ (q p : ℕ) (g h : Pair) (t : Quiet (circle_refusal q p g h)) where
-  pub circle_numbers : Numbers q p
-  circle_numbers = numbers q p (quiet_both (number_refusal q p) _ t).0
-
-  wide : 1 < p
-  wide = omega (arith, circle_numbers.modulus_low)
-
-  pub circle_group_monoid : MonoidLaws (circle_elements q p)
-  circle_group_monoid = torsion_laws (circle_monoid p wide) (circle_torsion p wide q)
-
-  pub circle_laws : GroupLaws (circle_elements q p) (circle_model q p g h)
-  circle_laws =
-      let n = circle_numbers in
-      let divides = passes ((p + 1) % q == 0 && p % 4 == 3) NoSuchGroup _ (quiet_both (number_refusal q p) _ t).1 in
-      let first = passes (circle_base q p g) (UnfitBase First) _ divides.1 in
-      let second = passes (circle_base q p h) (UnfitBase Second) _ first.1 in
-      record {
-        prime = n.prime;
-        low = n.low;
-        high = n.high;
-        g_in = and_l (circle_element q p g) (not (is_one g)) first.0;
-        h_in = and_l (circle_element q p h) (not (is_one h)) second.0;
-        ordered = torsion_ordered (circle_monoid p wide) (circle_torsion p wide q);
-        reads_words = λ x hx. picks (circle_element q p x) _ _ hx;
-        reads_in = λ w x e.
-            let found = picked (circle_element q p (pair w.0 w.1)) (pair w.0 w.1) x e in
-            (subst (λ (r : Pair). T (circle_element q p r)) found.1 found.0, ap (λ (r : Pair). (r.0.0, r.1.0)) (sym found.1));
-      }
+pub circle_cut : AmbientLaws circle
+circle_cut = record {
+  multiplies = circle_monoid;
+  turns = λ q p _ wide. circle_torsion p wide q;
+  neutral = λ _. tt;
+  only = λ _ x h. both _ _ _ _ (eqb→eq x.0.0 1 (and_l (x.0.0 == 1) (x.1.0 == 0) h)) (eqb→eq x.1.0 0 (and_r (x.0.0 == 1) (x.1.0 == 0) h));
+  reads_words = λ _. refl;
+  reads_in = λ w x e. cc;
+}

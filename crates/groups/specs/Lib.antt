@@ -1,6 +1,8 @@
 pub mod Monoids
 pub mod Groups
 pub mod Listed
+pub mod Ambients
+pub mod PrimeLaws
 pub mod Residues
 pub mod Circles
 pub mod CircleLaws

@@ -1,20 +1,15 @@
 -- The residues modulo p, and those whose q-th power is 1.
-use Rattle.std.specs.Prelude.{◌≡◌, ℕ, zero, suc, ◌-◌, ◌*◌, ◌%◌, ◌^◌, ◌<◌, not, ◌&&◌, T, ◌==◌, nat_eq, nat_lt}
+use Rattle.std.specs.Prelude.{◌≡◌, ℕ, zero, suc, ◌-◌, ◌*◌, ◌%◌, ◌^◌, ◌<◌, ◌&&◌, T, ◌==◌, nat_lt, refl}
 use Rattle.std.proofs.Common.{sym, ap, subst, ◌∙◌, mul_assoc, mul_comm, one-mul, mul-zero, mod-lt, mod-eq_of_lt, pow-suc, not-suc-le-zero, arith, ltb→lt, lt→ltb, eqb→eq}
 use Rattle.std.proofs.Math.Nat.{pow-zero, pow-succ'}
 use Rattle.std.specs.Float.Ieee.Fits.{and_i, and_l, and_r}
-use Rattle.std.proofs.lemmas.Bool.{lt-ltb}
-use Rattle.refusals.specs.declared.Refusal.TheVariants.{NoSuchGroup, UnfitBase}
-use Rattle.refusals.specs.declared.Base.TheVariants.{First, Second}
 use Rattle.fields.specs.Residual.{mod_mul_mod, mul_mod_mod}
 use Rattle.groups.specs.Monoids.{MonoidLaws, power}
-use Rattle.groups.specs.Groups.{GroupLaws}
-use Rattle.groups.specs.Listed.{number_refusal}
-use Rattle.groups.specs.Residues.{residue, residues_modulo, residue_element, residue_elements, residue_model, residue_base, residue_refusal}
+use Rattle.groups.specs.Ambients.{AmbientLaws}
+use Rattle.groups.specs.Residues.{residue, residues_modulo, residue_element, residues}
 use Rattle.groups.specs.declared.residue.Residue.{Residue}
-use Rattle.groups.specs.Torsion.{Torsion, torsion_laws, torsion_ordered}
-use Rattle.groups.specs.Passing.{Quiet, passes, quiet_both, picks, picked}
-use Rattle.groups.specs.Listing.{Numbers, numbers}
+use Rattle.groups.specs.Torsion.{Torsion}
+use Rattle.groups.specs.Passing.{picked}
 
 pub residues_laws : (p : ℕ) → 1 < p → MonoidLaws (residues_modulo p)
 residues_laws p wide = record {
@@ -57,40 +52,14 @@ module _ (q p : ℕ) (some : 0 < q) (wide : 1 < p) where
         (and_i (nat_lt x.0 p) (x.0 ^ q % p == 1) h (subst (λ n. T (n == 1)) (sym one) tt));
   }
 
--- the test of the code, once y is known to be from 1 to p - 1
-pub element_test : (q p : ℕ) → 1 < p → (x y : Residue) → 0 < y.0 → y.0 < p → x ≡ power (residues_modulo p) y q → (x.0 == 1) ≡ residue_element q p y.0
-element_test q p wide x y low high e =
-    ap (λ n. nat_eq n 1) (ap (λ (r : Residue). r.0) (e ∙ residue_power p wide y q))
-    ∙ sym (ap (λ b. b && (nat_lt y.0 p && y.0 ^ q % p == 1)) (lt-ltb 0 y.0 low) ∙ ap (λ b. b && y.0 ^ q % p == 1) (lt-ltb y.0 p high))
-
-module _ (q p : ℕ) (g h : Residue) (t : Quiet (residue_refusal q p g h)) where
-  pub residue_numbers : Numbers q p
-  residue_numbers = numbers q p (quiet_both (number_refusal q p) _ t).0
-
-  pub residue_monoid : MonoidLaws (residue_elements q p)
-  residue_monoid =
-      let n = residue_numbers in
-      torsion_laws (residues_laws p (omega (arith, n.modulus_low))) (residue_torsion q p (omega (arith, n.low)) (omega (arith, n.modulus_low)))
-
-  pub residue_laws : GroupLaws (residue_elements q p) (residue_model q p g h)
-  residue_laws =
-      let n = residue_numbers in
-      let divides = passes ((p - 1) % q == 0) NoSuchGroup _ (quiet_both (number_refusal q p) _ t).1 in
-      let first = passes (residue_base q p g) (UnfitBase First) _ divides.1 in
-      let second = passes (residue_base q p h) (UnfitBase Second) _ first.1 in
-      let wide : 1 < p = omega (arith, n.modulus_low) in
-      let some : 0 < q = omega (arith, n.low) in
-      record {
-        prime = n.prime;
-        low = n.low;
-        high = n.high;
-        g_in = and_l (residue_element q p g.0) (not (g.0 == 1)) first.0;
-        h_in = and_l (residue_element q p h.0) (not (h.0 == 1)) second.0;
-        ordered = torsion_ordered (residues_laws p wide) (residue_torsion q p some wide);
-        reads_words = λ x hx. picks (residue_element q p x.0 && 0 == 0) _ _ (and_i (residue_element q p x.0) (0 == 0) hx tt);
-        reads_in = λ w x e.
-            let found = picked (residue_element q p w.0 && w.1 == 0) (residue w.0) x e in (
-              subst (λ (r : Residue). T (residue_element q p r.0)) found.1 (and_l (residue_element q p w.0) (w.1 == 0) found.0),
-              ap (λ (r : Residue). (r.0, 0)) (sym found.1) ∙ ap (λ n. (w.0, n)) (sym (eqb→eq w.1 0 (and_r (residue_element q p w.0) (w.1 == 0) found.0))),
-            );
-      }
+pub residues_cut : AmbientLaws residues
+residues_cut = record {
+  multiplies = residues_laws;
+  turns = residue_torsion;
+  neutral = λ _. tt;
+  only = λ _ x h. ap residue (eqb→eq x.0 1 h);
+  reads_words = λ _. refl;
+  reads_in = λ w x e.
+      let found = picked (w.1 == 0) (residue w.0) x e in
+      ap (λ (r : Residue). (r.0, 0)) (sym found.1) ∙ ap (λ n. (w.0, n)) (sym (eqb→eq w.1 0 found.0));
+}

@@ -1,18 +1,19 @@
 // Groups of prime order, and powers in them.
 #![tactic(auto)]
 
-mod checked;
-mod circle_group;
+mod circle;
 mod group;
 mod listed;
-mod modulus;
+mod modular;
 mod monoid;
-mod products;
+mod prime_group;
 mod residue;
-mod residue_group;
+mod residues;
 
-pub use checked::{CircleGroup, ResidueGroup};
+pub use circle::Circle;
 pub use group::Group;
-pub use modulus::{Circle, Residues};
+pub use modular::Modular;
 pub use monoid::{Monoid, power};
+pub use prime_group::{CircleGroup, PrimeGroup, ResidueGroup};
 pub use residue::Residue;
+pub use residues::Residues;

@@ -1,5 +1,5 @@
 use Rattle.std.proofs.Common.{le_trans, mul-le-mul, arith}
-use Rattle.groups.proofs.products.two_products.Goals as goal
+use Rattle.groups.proofs.circle.two_products.Goals as goal
 
 pub overflow_add-result : goal.overflow_add-result
 overflow_add-result c =

@@ -1,21 +1,18 @@
-// Products of residues, and of pairs of residues.
+// The circle modulo p: what circle groups are cut from.
 ghost use Rattle.std.specs.Prelude.{◌≡◌, ◌+◌, ◌-◌, ◌*◌, ◌%◌, ◌<◌, ◌≤◌, MatchOption};
-ghost use Rattle.groups.specs.Residues.{residues_modulo};
-ghost use Rattle.groups.specs.Circles.{circle_modulo};
-ghost use Rattle.groups.specs.ResidueLaws.{residues_laws};
-ghost use Rattle.groups.specs.CircleLaws.{circle_monoid};
+ghost use Rattle.groups.specs.Circles.{circle_modulo, circle};
+ghost use Rattle.groups.specs.CircleLaws.{circle_monoid, circle_cut};
 
-use crate::modulus::{Circle, Residues};
+use crate::modular::Modular;
 use crate::monoid::Monoid;
 use crate::residue::Residue;
 
-impl Residues {
-    // The numbers below p; none where p is below 2.
-    pub fn new(p: u32) -> Option<Residues>
-        ensures { MatchOption result (p ≤ 1) (λ s. s.p ≡ p) }
-    {
-        if p > 1 { Some(Residues { p }) } else { None }
-    }
+// The pairs of numbers below p, multiplied as a + bi with i squared -1.
+#[derive(Clone, Copy)]
+pub struct Circle {
+    p: u32,
+    ghost low: { 1 < p },
+    ghost high: { p ≤ 2147483647 },
 }
 
 impl Circle {
@@ -28,24 +25,6 @@ impl Circle {
         } else {
             None
         }
-    }
-}
-
-impl Monoid for Residues {
-    type Index = ();
-
-    type Element = Residue;
-
-    ghost monoid = { λ s _. residues_modulo s.p };
-
-    ghost multiplies = { λ s _. residues_laws s.p s.low };
-
-    fn neutral(&self, _at: ()) -> Residue {
-        Residue::new(1)
-    }
-
-    fn product(&self, _at: (), a: &Residue, b: &Residue) -> Residue {
-        Residue::new(fields::product_modulo(self.p, a.value(), b.value()))
     }
 }
 
@@ -81,5 +60,37 @@ impl Monoid for Circle {
         let first = two_products(self.p, a, c, self.p - b, d);
         let second = two_products(self.p, a, d, b, c);
         (Residue::new(first), Residue::new(second))
+    }
+}
+
+impl Modular for (Residue, Residue) {
+    type Product = Circle;
+
+    ghost ambient = { circle };
+
+    ghost cut = { circle_cut };
+
+    fn product_modulo(p: u32) -> Circle {
+        Circle { p }
+    }
+
+    fn fits(q: u32, p: u32) -> bool {
+        (p + 1) % q == 0 && p % 4 == 3
+    }
+
+    fn is_reduced(self, p: u32) -> bool {
+        self.0.value() < p && self.1.value() < p
+    }
+
+    fn is_neutral(self) -> bool {
+        self.0.value() == 1 && self.1.value() == 0
+    }
+
+    fn to_words(self) -> (u32, u32) {
+        (self.0.value(), self.1.value())
+    }
+
+    fn from_words(words: (u32, u32)) -> Option<(Residue, Residue)> {
+        Some((Residue::new(words.0), Residue::new(words.1)))
     }
 }

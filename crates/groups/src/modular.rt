@@ -1,0 +1,38 @@
+// Values that are multiplied modulo p, and of which groups of prime order are made.
+ghost use Rattle.std.specs.Prelude.{◌≡◌, ◌<◌, ◌≤◌};
+ghost use Rattle.groups.specs.Ambients.{AmbientModel, AmbientLaws};
+
+use crate::monoid::Monoid;
+
+pub trait Modular: Copy {
+    // their product, for one modulus
+    type Product: Monoid<Index = (), Element = Self> + Copy;
+
+    // what groups are cut from, for every modulus, as one value
+    ghost ambient: { AmbientModel Self };
+
+    fn product_modulo(p: u32) -> Self::Product
+        requires { (1 < p) × (p ≤ 2147483647) }
+        ensures { Self.Product.monoid result tt ≡ ambient.product p };
+
+    // Whether a group of order q fits the modulus p.
+    fn fits(q: u32, p: u32) -> bool
+        requires { (0 < q) × ((0 < p) × (p ≤ 2147483647)) }
+        ensures { result ≡ ambient.fits q p };
+
+    // Whether each of its numbers is below p.
+    fn is_reduced(self, p: u32) -> bool
+        ensures { result ≡ (ambient.product p).member self };
+
+    fn is_neutral(self) -> bool
+        ensures { result ≡ ambient.is_one self };
+
+    fn to_words(self) -> (u32, u32)
+        ensures { result ≡ ambient.words self };
+
+    fn from_words(words: (u32, u32)) -> Option<Self>
+        ensures { result ≡ ambient.read words };
+
+    // what each implementation proves
+    ghost cut: { AmbientLaws ambient };
+}
