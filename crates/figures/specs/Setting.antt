@@ -10,8 +10,7 @@ use Rattle.fields.specs.Scalars.{scalar}
 use Rattle.groups.specs.Monoids.{power}
 use Rattle.groups.specs.Residues.{residue}
 use Rattle.groups.specs.Circles.{pair, circle_refusal}
-use Rattle.groups.specs.declared.checked.ResidueGroup.{ResidueGroup}
-use Rattle.groups.specs.declared.checked.CircleGroup.{CircleGroup}
+use Rattle.groups.specs.PrimeGroups.{ResidueGroup, CircleGroup}
 use Rattle.kinds.specs.Kinds.{KindModel, Key}
 use Rattle.kinds.specs.Numbered.{set_of}
 use Rattle.kinds.specs.declared.image.Image.{Image}

@@ -5,8 +5,11 @@ use Rattle.std.proofs.Math.Nat.{mod-mod, add-mul-mod_self_left}
 use Rattle.std.specs.Float.Ieee.Fits.{and_i, and_l, and_r}
 use Rattle.fields.specs.Residual.{same_sum}
 use Rattle.groups.specs.Monoids.{MonoidLaws, power}
+use Rattle.groups.specs.Groups.{GroupLaws}
 use Rattle.groups.specs.Ambients.{AmbientLaws}
-use Rattle.groups.specs.Circles.{Pair, pair, circle_product, circle_modulo, is_one, circle_element, circle}
+use Rattle.groups.specs.PrimeLaws.{group_monoid, group_laws}
+use Rattle.groups.specs.Passing.{Quiet}
+use Rattle.groups.specs.Circles.{Pair, pair, circle_product, circle_modulo, is_one, circle_element, circle_elements, circle_model, circle_refusal, circle}
 use Rattle.groups.specs.Torsion.{Torsion}
 use Rattle.groups.specs.Quadratic.{low, high, low_assoc, high_assoc, low_comm, high_comm, same_low, same_high, negated}
 
@@ -116,3 +119,10 @@ circle_cut = record {
   reads_words = λ _. refl;
   reads_in = λ w x e. cc;
 }
+
+module _ (q p : ℕ) (g h : Pair) (t : Quiet (circle_refusal q p g h)) where
+  pub circle_group_monoid : MonoidLaws (circle_elements q p)
+  circle_group_monoid = group_monoid circle_cut q p g h t
+
+  pub circle_laws : GroupLaws (circle_elements q p) (circle_model q p g h)
+  circle_laws = group_laws circle_cut q p g h t

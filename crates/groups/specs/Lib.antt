@@ -4,6 +4,7 @@ pub mod Listed
 pub mod Ambients
 pub mod PrimeLaws
 pub mod Residues
+pub mod PrimeGroups
 pub mod Circles
 pub mod CircleLaws
 pub mod Torsion

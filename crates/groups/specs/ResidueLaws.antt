@@ -5,11 +5,13 @@ use Rattle.std.proofs.Math.Nat.{pow-zero, pow-succ'}
 use Rattle.std.specs.Float.Ieee.Fits.{and_i, and_l, and_r}
 use Rattle.fields.specs.Residual.{mod_mul_mod, mul_mod_mod}
 use Rattle.groups.specs.Monoids.{MonoidLaws, power}
+use Rattle.groups.specs.Groups.{GroupLaws}
 use Rattle.groups.specs.Ambients.{AmbientLaws}
-use Rattle.groups.specs.Residues.{residue, residues_modulo, residue_element, residues}
+use Rattle.groups.specs.PrimeLaws.{group_monoid, group_laws}
+use Rattle.groups.specs.Residues.{residue, residues_modulo, residue_element, residue_elements, residue_model, residue_refusal, residues}
 use Rattle.groups.specs.declared.residue.Residue.{Residue}
 use Rattle.groups.specs.Torsion.{Torsion}
-use Rattle.groups.specs.Passing.{picked}
+use Rattle.groups.specs.Passing.{Quiet, picked}
 
 pub residues_laws : (p : ℕ) → 1 < p → MonoidLaws (residues_modulo p)
 residues_laws p wide = record {
@@ -63,3 +65,10 @@ residues_cut = record {
       let found = picked (w.1 == 0) (residue w.0) x e in
       ap (λ (r : Residue). (r.0, 0)) (sym found.1) ∙ ap (λ n. (w.0, n)) (sym (eqb→eq w.1 0 found.0));
 }
+
+module _ (q p : ℕ) (g h : Residue) (t : Quiet (residue_refusal q p g h)) where
+  pub residue_monoid : MonoidLaws (residue_elements q p)
+  residue_monoid = group_monoid residues_cut q p g h t
+
+  pub residue_laws : GroupLaws (residue_elements q p) (residue_model q p g h)
+  residue_laws = group_laws residues_cut q p g h t

@@ -3,6 +3,7 @@ ghost use Rattle.std.specs.Prelude.{◌≡◌, ◌+◌, ◌-◌, ◌*◌, ◌%�
 ghost use Rattle.groups.specs.Circles.{circle_modulo, circle};
 ghost use Rattle.groups.specs.CircleLaws.{circle_monoid, circle_cut};
 
+use crate::listed::Parameters;
 use crate::modular::Modular;
 use crate::monoid::Monoid;
 use crate::residue::Residue;
@@ -20,6 +21,7 @@ impl Circle {
     pub fn new(p: u32) -> Option<Circle>
         ensures { MatchOption result ((1 < p → p ≤ 2147483647 → ⊥)) (λ s. s.p ≡ p) }
     {
+        // kept: `then_some` would make the value before the test that it stands by
         if p > 1 && p <= 2147483647 {
             Some(Circle { p })
         } else {
@@ -70,12 +72,12 @@ impl Modular for (Residue, Residue) {
 
     ghost cut = { circle_cut };
 
-    fn product_modulo(p: u32) -> Circle {
-        Circle { p }
+    fn product_modulo(parameters: Parameters) -> Circle {
+        Circle { p: parameters.p }
     }
 
-    fn fits(q: u32, p: u32) -> bool {
-        (p + 1) % q == 0 && p % 4 == 3
+    fn fits(parameters: Parameters) -> bool {
+        (parameters.p + 1) % parameters.q == 0 && parameters.p % 4 == 3
     }
 
     fn is_reduced(self, p: u32) -> bool {
@@ -83,7 +85,7 @@ impl Modular for (Residue, Residue) {
     }
 
     fn is_neutral(self) -> bool {
-        self.0.value() == 1 && self.1.value() == 0
+        self == (Residue::new(1), Residue::new(0))
     }
 
     fn to_words(self) -> (u32, u32) {

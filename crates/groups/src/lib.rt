@@ -12,6 +12,7 @@ mod residues;
 
 pub use circle::Circle;
 pub use group::Group;
+pub use listed::Parameters;
 pub use modular::Modular;
 pub use monoid::{Monoid, power};
 pub use prime_group::{CircleGroup, PrimeGroup, ResidueGroup};

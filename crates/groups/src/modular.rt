@@ -1,7 +1,8 @@
 // Values that are multiplied modulo p, and of which groups of prime order are made.
-ghost use Rattle.std.specs.Prelude.{◌≡◌, ◌<◌, ◌≤◌};
+ghost use Rattle.std.specs.Prelude.{◌≡◌};
 ghost use Rattle.groups.specs.Ambients.{AmbientModel, AmbientLaws};
 
+use crate::listed::Parameters;
 use crate::monoid::Monoid;
 
 pub trait Modular: Copy {
@@ -11,14 +12,12 @@ pub trait Modular: Copy {
     // what groups are cut from, for every modulus, as one value
     ghost ambient: { AmbientModel Self };
 
-    fn product_modulo(p: u32) -> Self::Product
-        requires { (1 < p) × (p ≤ 2147483647) }
-        ensures { Self.Product.monoid result tt ≡ ambient.product p };
+    fn product_modulo(parameters: Parameters) -> Self::Product
+        ensures { Self.Product.monoid result tt ≡ ambient.product parameters.p };
 
-    // Whether a group of order q fits the modulus p.
-    fn fits(q: u32, p: u32) -> bool
-        requires { (0 < q) × ((0 < p) × (p ≤ 2147483647)) }
-        ensures { result ≡ ambient.fits q p };
+    // Whether a group of this order fits this modulus.
+    fn fits(parameters: Parameters) -> bool
+        ensures { result ≡ ambient.fits parameters.q parameters.p };
 
     // Whether each of its numbers is below p.
     fn is_reduced(self, p: u32) -> bool

@@ -1,11 +1,11 @@
 // Groups of prime order modulo p: values that have passed the checks of their maker.
-ghost use Rattle.std.specs.Prelude.{⊤, ◌≡◌, ◌<◌, ◌≤◌, not, T, is_some, IfOk};
+ghost use Rattle.std.specs.Prelude.{⊤, ◌≡◌, not, T, is_some, IfOk};
 ghost use Rattle.refusals.specs.Checks.{told};
 ghost use Rattle.groups.specs.Ambients.{base, group_elements, group_model, group_refusal};
 ghost use Rattle.groups.specs.PrimeLaws.{group_monoid, group_laws};
 
 use crate::group::Group;
-use crate::listed::check_numbers;
+use crate::listed::Parameters;
 use crate::modular::Modular;
 use crate::monoid::{Monoid, power};
 use crate::residue::Residue;
@@ -29,18 +29,17 @@ pub type ResidueGroup = PrimeGroup<Residue>;
 pub type CircleGroup = PrimeGroup<(Residue, Residue)>;
 
 // Whether x is reduced and its q-th power is neutral.
-fn is_element<E: Modular>(q: u32, p: u32, x: E) -> bool
-    requires { (0 < q) × ((1 < p) × (p ≤ 2147483647)) }
-    ensures { result ≡ E.ambient.element q p x }
+fn is_element<E: Modular>(parameters: Parameters, x: E) -> bool
+    ensures { result ≡ E.ambient.element parameters.q parameters.p x }
 {
-    x.is_reduced(p) && power(&E::product_modulo(p), (), &x, q).is_neutral()
+    let product = E::product_modulo(parameters);
+    x.is_reduced(parameters.p) && power(&product, (), &x, parameters.q).is_neutral()
 }
 
-fn is_base<E: Modular>(q: u32, p: u32, x: E) -> bool
-    requires { (0 < q) × ((1 < p) × (p ≤ 2147483647)) }
-    ensures { result ≡ base E.ambient q p x }
+fn is_base<E: Modular>(parameters: Parameters, x: E) -> bool
+    ensures { result ≡ base E.ambient parameters.q parameters.p x }
 {
-    is_element(q, p, x) && !x.is_neutral()
+    is_element(parameters, x) && !x.is_neutral()
 }
 
 impl<E: Modular> PrimeGroup<E> {
@@ -49,17 +48,26 @@ impl<E: Modular> PrimeGroup<E> {
         ensures refuses { told result ≡ group_refusal E.ambient q p g h }
         ensures makes { IfOk result (λ s. (s.q ≡ q) × (s.p ≡ p) × (s.g ≡ g) × (s.h ≡ h)) }
     {
-        check_numbers(q, p)?;
-        if !E::fits(q, p) {
+        let parameters = Parameters::new(q, p)?;
+        if !E::fits(parameters) {
             return Err(Refusal::NoSuchGroup);
         }
-        if !is_base(q, p, g) {
+        if !is_base(parameters, g) {
             return Err(Refusal::UnfitBase(Base::First));
         }
-        if !is_base(q, p, h) {
+        if !is_base(parameters, h) {
             return Err(Refusal::UnfitBase(Base::Second));
         }
         Ok(PrimeGroup { q, p, g, h })
+    }
+
+    fn parameters(&self) -> Parameters
+        ensures { (result.q ≡ self.now.q) × (result.p ≡ self.now.p) }
+    {
+        Parameters {
+            q: self.q,
+            p: self.p,
+        }
     }
 }
 
@@ -84,11 +92,11 @@ impl<E: Modular> Monoid for PrimeGroup<E> {
     ghost multiplies = { λ s _. group_monoid E.cut s.q s.p s.g s.h s.passed };
 
     fn neutral(&self, _at: ()) -> E {
-        E::product_modulo(self.p).neutral(())
+        E::product_modulo(self.parameters()).neutral(())
     }
 
     fn product(&self, _at: (), a: &E, b: &E) -> E {
-        E::product_modulo(self.p).product((), a, b)
+        E::product_modulo(self.parameters()).product((), a, b)
     }
 }
 
@@ -114,7 +122,7 @@ impl<E: Modular> Group for PrimeGroup<E> {
     }
 
     fn from_words(&self, words: (u32, u32)) -> Option<E> {
-        E::from_words(words).filter(|x| is_element(self.q, self.p, *x))
+        E::from_words(words).filter(|x| is_element(self.parameters(), *x))
     }
 
     fn known_element(&self, words: (u32, u32)) -> E {

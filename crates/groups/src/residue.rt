@@ -1,7 +1,8 @@
 // A number that counts modulo p: an element of the residue group, or half of one of the circle group.
 ghost use Rattle.std.specs.Prelude.{◌≡◌};
 
-#[derive(Clone, Copy)]
+// A newtype like the fields' `Scalar`, and on purpose another one: no call takes a residue for a scalar.
+#[derive(Clone, Copy, Debug, PartialEq, Eq)]
 pub struct Residue(u32);
 
 impl Residue {

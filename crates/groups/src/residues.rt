@@ -3,6 +3,7 @@ ghost use Rattle.std.specs.Prelude.{◌≡◌, ◌<◌, ◌≤◌, MatchOption};
 ghost use Rattle.groups.specs.Residues.{residues_modulo, residues};
 ghost use Rattle.groups.specs.ResidueLaws.{residues_laws, residues_cut};
 
+use crate::listed::Parameters;
 use crate::modular::Modular;
 use crate::monoid::Monoid;
 use crate::residue::Residue;
@@ -19,6 +20,7 @@ impl Residues {
     pub fn new(p: u32) -> Option<Residues>
         ensures { MatchOption result (p ≤ 1) (λ s. s.p ≡ p) }
     {
+        // kept: `then_some` would make the value before the test that it stands by
         if p > 1 { Some(Residues { p }) } else { None }
     }
 }
@@ -48,12 +50,12 @@ impl Modular for Residue {
 
     ghost cut = { residues_cut };
 
-    fn product_modulo(p: u32) -> Residues {
-        Residues { p }
+    fn product_modulo(parameters: Parameters) -> Residues {
+        Residues { p: parameters.p }
     }
 
-    fn fits(q: u32, p: u32) -> bool {
-        (p - 1) % q == 0
+    fn fits(parameters: Parameters) -> bool {
+        (parameters.p - 1) % parameters.q == 0
     }
 
     fn is_reduced(self, p: u32) -> bool {
@@ -61,7 +63,7 @@ impl Modular for Residue {
     }
 
     fn is_neutral(self) -> bool {
-        self.value() == 1
+        self == Residue::new(1)
     }
 
     fn to_words(self) -> (u32, u32) {
@@ -69,10 +71,6 @@ impl Modular for Residue {
     }
 
     fn from_words(words: (u32, u32)) -> Option<Residue> {
-        if words.1 == 0 {
-            Some(Residue::new(words.0))
-        } else {
-            None
-        }
+        (words.1 == 0).then_some(Residue::new(words.0))
     }
 }

@@ -2,8 +2,7 @@
 use Rattle.std.proofs.Common.{◌≡◌, ℕ, List, Some, None, Ok, Result, sym, refl, ap, ◌∙◌, subst}
 use Rattle.refusals.specs.declared.Refusal.{Refusal}
 use Rattle.groups.specs.declared.residue.Residue.{Residue}
-use Rattle.groups.specs.declared.checked.ResidueGroup.{ResidueGroup}
-use Rattle.groups.specs.declared.checked.CircleGroup.{CircleGroup}
+use Rattle.groups.specs.PrimeGroups.{ResidueGroup, CircleGroup}
 use Rattle.groups.specs.Circles.{Pair, pair, circle_refusal, circle_elements, circle_model}
 use Rattle.std.specs.Option.{option_map}
 use Rattle.words.specs.declared.fault.Fault.{Fault}

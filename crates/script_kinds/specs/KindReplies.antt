@@ -9,8 +9,7 @@ use Rattle.refusals.specs.declared.Refusal.TheVariants.{OrdersDiffer}
 use Rattle.fields.specs.Scalars.{scalar}
 use Rattle.groups.specs.Monoids.{power}
 use Rattle.groups.specs.declared.residue.Residue as residues
-use Rattle.groups.specs.declared.checked.ResidueGroup.{ResidueGroup}
-use Rattle.groups.specs.declared.checked.CircleGroup.{CircleGroup}
+use Rattle.groups.specs.PrimeGroups.{ResidueGroup, CircleGroup}
 use Rattle.groups.specs.Residues.{residue_elements, residue_model}
 use Rattle.groups.specs.Circles.{Pair, circle_elements, circle_model}
 use Rattle.kinds.specs.Kinds.{Kind, KindModel, images}

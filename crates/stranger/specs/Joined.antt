@@ -5,7 +5,7 @@
 use Rattle.std.specs.Prelude.{◌≡◌, ℕ, T}
 use Rattle.kinds.specs.Kinds.{Key, KindModel, is_key, add_keys}
 use Rattle.groups.specs.Residues.{residue_elements, residue_model}
-use Rattle.groups.specs.declared.checked.ResidueGroup.{ResidueGroup}
+use Rattle.groups.specs.PrimeGroups.{ResidueGroup}
 use Rattle.kinds.specs.GroupKinds.{single_set}
 use Rattle.kinds.specs.declared.image.Image.{Image}
 use Rattle.stranger.specs.Multiples.{multiples_set}

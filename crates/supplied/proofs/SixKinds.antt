@@ -8,8 +8,7 @@ use Rattle.groups.specs.Monoids.{MonoidModel}
 use Rattle.groups.specs.Groups.{GroupModel}
 use Rattle.groups.specs.Circles.{Pair}
 use Rattle.groups.specs.declared.residue.Residue.{Residue}
-use Rattle.groups.specs.declared.checked.ResidueGroup.{ResidueGroup}
-use Rattle.groups.specs.declared.checked.CircleGroup.{CircleGroup}
+use Rattle.groups.specs.PrimeGroups.{ResidueGroup, CircleGroup}
 use Rattle.kinds.specs.Kinds.{Kind, KindModel}
 use Rattle.kinds.specs.GroupKinds.{single, twin, mixed, single_set, twin_set, mixed_set}
 use Rattle.kinds.specs.Joins.{join, join_refusal}

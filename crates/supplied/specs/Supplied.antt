@@ -9,8 +9,7 @@ use Rattle.groups.specs.Groups.{GroupModel}
 use Rattle.groups.specs.Residues.{residue_elements, residue_model}
 use Rattle.groups.specs.Circles.{Pair, circle_elements, circle_model}
 use Rattle.groups.specs.declared.residue.Residue.{Residue}
-use Rattle.groups.specs.declared.checked.ResidueGroup.{ResidueGroup}
-use Rattle.groups.specs.declared.checked.CircleGroup.{CircleGroup}
+use Rattle.groups.specs.PrimeGroups.{ResidueGroup, CircleGroup}
 use Rattle.kinds.specs.Kinds.{Kind, KindModel}
 use Rattle.kinds.specs.GroupKinds.{single, twin, mixed, single_set, twin_set, mixed_set}
 use Rattle.kinds.specs.Joins.{join}
