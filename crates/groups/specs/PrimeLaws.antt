@@ -1,22 +1,16 @@
 -- What holds of every group of prime order, from what holds of the product that it is cut from.
-use Rattle.std.specs.Prelude.{◌≡◌, ℕ, ◌<◌, Bool, true, false, not, ◌&&◌, T, Some, None, Option, refl}
-use Rattle.std.proofs.Common.{sym, ap, subst, ◌∙◌, arith}
-use Rattle.std.specs.Float.Ieee.Fits.{and_i, and_l, and_r}
+use Rattle.std.specs.Prelude.{◌≡◌, ℕ, ◌<◌, Bool, not, T, Some, None, Option}
+use Rattle.std.proofs.Common.{ap, subst, ◌∙◌, arith}
+use Rattle.std.specs.Float.Ieee.Fits.{and_l}
 use Rattle.refusals.specs.declared.Refusal.TheVariants.{NoSuchGroup, UnfitBase}
 use Rattle.refusals.specs.declared.Base.TheVariants.{First, Second}
-use Rattle.groups.specs.Monoids.{MonoidLaws, power}
+use Rattle.groups.specs.Monoids.{MonoidLaws}
 use Rattle.groups.specs.Groups.{GroupLaws}
 use Rattle.groups.specs.Listed.{number_refusal}
 use Rattle.groups.specs.Listing.{Numbers, numbers}
 use Rattle.groups.specs.Passing.{Quiet, passes, quiet_both, picks, picked}
-use Rattle.groups.specs.Torsion.{Torsion, torsion_laws, torsion_ordered}
+use Rattle.groups.specs.Torsion.{torsion_laws, torsion_ordered}
 use Rattle.groups.specs.Ambients.{AmbientModel, AmbientLaws, base, passing, group_elements, group_model, group_refusal}
-
-same_test : (b c : Bool) → (T b → T c) → (T c → T b) → b ≡ c
-same_test true true f g = refl
-same_test true false f g = absurd (f tt)
-same_test false true f g = absurd (g tt)
-same_test false false f g = refl
 
 -- what passes a test is what was read, and meets it
 passed : {E : Type 0} (test : E → Bool) (o : Option E) (x : E) → passing test o ≡ Some x → (o ≡ Some x) × T (test x)
@@ -24,15 +18,6 @@ passed test None x e = absurd (let z : ◌≡◌ {A = ℕ} 0 1 = cc in let w = z
 passed test (Some y) x e = let found = picked (test y) y x e in (ap Some found.1, subst (λ u. T (test u)) found.1 found.0)
 
 module _ {E : Type 0} {a : AmbientModel E} (cut : AmbientLaws a) where
-  -- the test of the code
-  pub element_test : (q p : ℕ) → 0 < q → 1 < p → (x : E) → ((a.product p).member x && a.is_one (power (a.product p) x q)) ≡ a.element q p x
-  element_test q p some wide x =
-      let m = a.product p in
-      let t = cut.turns q p some wide in
-      same_test (m.member x && a.is_one (power m x q)) (a.element q p x)
-      (λ h. t.back x (and_l (m.member x) (a.is_one (power m x q)) h) (cut.only p (power m x q) (and_r (m.member x) (a.is_one (power m x q)) h)))
-      (λ h. and_i (m.member x) (a.is_one (power m x q)) (t.inside x h) (subst (λ u. T (a.is_one u)) (sym (t.turns x h)) (cut.neutral p)))
-
   module _ (q p : ℕ) (g h : E) (t : Quiet (group_refusal a q p g h)) where
     pub group_numbers : Numbers q p
     group_numbers = numbers q p (quiet_both (number_refusal q p) _ t).0

@@ -1,5 +1,5 @@
 -- The residues modulo p, and those whose q-th power is 1.
-use Rattle.std.specs.Prelude.{◌≡◌, ℕ, zero, suc, ◌-◌, ◌*◌, ◌%◌, ◌^◌, ◌<◌, ◌&&◌, T, ◌==◌, nat_lt, refl}
+use Rattle.std.specs.Prelude.{◌≡◌, ℕ, zero, suc, ◌*◌, ◌%◌, ◌^◌, ◌<◌, ◌&&◌, T, ◌==◌, nat_lt, refl}
 use Rattle.std.proofs.Common.{sym, ap, subst, ◌∙◌, mul_assoc, mul_comm, one-mul, mul-zero, mod-lt, mod-eq_of_lt, pow-suc, not-suc-le-zero, arith, ltb→lt, lt→ltb, eqb→eq}
 use Rattle.std.proofs.Math.Nat.{pow-zero, pow-succ'}
 use Rattle.std.specs.Float.Ieee.Fits.{and_i, and_l, and_r}

@@ -23,7 +23,7 @@ pub trait Group: Monoid<Index = ()> {
     fn from_words(&self, words: (u32, u32)) -> Option<Self::Element>
         ensures { result ≡ (group self.now).reads words };
 
-    // The element of words that are known to be one: no test is made.
+    // The element of words that are known to be one: no power is taken to test it.
     fn known_element(&self, words: (u32, u32)) -> Self::Element
         requires { T (is_some ((group self.now).reads words)) }
         ensures { (group self.now).reads words ≡ Some result };

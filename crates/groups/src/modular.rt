@@ -12,6 +12,7 @@ pub trait Modular: Copy {
     // what groups are cut from, for every modulus, as one value
     ghost ambient: { AmbientModel Self };
 
+    // The product modulo p.
     fn product_modulo(parameters: Parameters) -> Self::Product
         ensures { Self.Product.monoid result tt ≡ ambient.product parameters.p };
 
@@ -23,12 +24,15 @@ pub trait Modular: Copy {
     fn is_reduced(self, p: u32) -> bool
         ensures { result ≡ (ambient.product p).member self };
 
+    // Whether it changes nothing as a factor.
     fn is_neutral(self) -> bool
         ensures { result ≡ ambient.is_one self };
 
+    // The two words that it is written as.
     fn to_words(self) -> (u32, u32)
         ensures { result ≡ ambient.words self };
 
+    // The value that is written as these words, if there is one, reduced or not.
     fn from_words(words: (u32, u32)) -> Option<Self>
         ensures { result ≡ ambient.read words };
 

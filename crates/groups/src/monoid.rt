@@ -30,6 +30,7 @@ pub fn power<M: Monoid>(monoid: &M, at: M::Index, base: &M::Element, exponent: u
     let mut result = monoid.neutral(at);
     let mut square = *base;
     let mut left = exponent;
+    // kept: going over the bits of the exponent by an iterator is no plainer than halving it
     while left > 0 {
         if left % 2 == 1 {
             result = monoid.product(at, &result, &square);
