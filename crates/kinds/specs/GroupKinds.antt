@@ -2,13 +2,17 @@
 --   single   width 1: the image of (w, 0) is g^w
 --   twin     width 1: the image of (w, 0) is g^w, h^w
 --   mixed    width 2: the image of (u, v) is g^u h^v
---   single_set, twin_set, mixed_set   the sets of one kind
+--   form_kind m g f                   the kind of the form f
+--   form_set m g f                    the set of this one kind
+--   single_set, twin_set, mixed_set   the three such sets
 -- An image is the words of one element and two zeros, at twin the words of two elements.
 use Rattle.std.specs.Prelude.{cond, ◌&&◌, Some, None, Option, ◌==◌}
 use Rattle.groups.specs.Monoids.{MonoidModel, power}
 use Rattle.groups.specs.Groups.{GroupModel}
 use Rattle.kinds.specs.Kinds.{Kind, KindModel}
 use Rattle.kinds.specs.Coded.{Coding, coded, alone}
+use Rattle.kinds.specs.declared.form.Form.{Form}
+use Rattle.kinds.specs.declared.form.Form.TheVariants.{Single, Twin, Mixed}
 
 -- one element
 abbrev pub one_element : {E : Type 0} → GroupModel E → Coding E
@@ -47,11 +51,19 @@ module _ {E : Type 0} (m : MonoidModel E) (g : GroupModel E) where
   abbrev pub mixed : Kind
   mixed = coded g.order 2 m (one_element g) (λ w. m.times (power m g.base_g w.0.0) (power m g.base_h w.1.0))
 
+  abbrev pub form_kind : Form → Kind
+  form_kind Single = single
+  form_kind Twin = twin
+  form_kind Mixed = mixed
+
+  abbrev pub form_set : Form → KindModel
+  form_set f = alone g.order (form_kind f)
+
   abbrev pub single_set : KindModel
-  single_set = alone g.order single
+  single_set = form_set Single
 
   abbrev pub twin_set : KindModel
-  twin_set = alone g.order twin
+  twin_set = form_set Twin
 
   abbrev pub mixed_set : KindModel
-  mixed_set = alone g.order mixed
+  mixed_set = form_set Mixed

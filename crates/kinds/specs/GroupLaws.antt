@@ -11,7 +11,9 @@ use Rattle.groups.proofs.Exponents.{power_sum}
 use Rattle.groups.specs.Torsion.{exchange}
 use Rattle.kinds.specs.Kinds.{Kind, no_kind, KindLaws, Lawful}
 use Rattle.kinds.specs.Coded.{alone}
-use Rattle.kinds.specs.GroupKinds.{one_element, paired, two_elements, pairs, single, twin, mixed, single_set, twin_set, mixed_set}
+use Rattle.kinds.specs.GroupKinds.{one_element, paired, two_elements, pairs, single, twin, mixed, form_kind, form_set}
+use Rattle.kinds.specs.declared.form.Form.{Form}
+use Rattle.kinds.specs.declared.form.Form.TheVariants.{Single, Twin, Mixed}
 use Rattle.kinds.specs.CodedLaws.{CodingLaws, coded_laws}
 
 pairs_power : {E : Type 0} (m : MonoidModel E) (x : E × E) (k : ℕ) → power (pairs m) x k ≡ (power m x.0 k, power m x.1 k)
@@ -134,11 +136,10 @@ module _ {E : Type 0} {m : MonoidModel E} {g : GroupModel E} (laws : MonoidLaws 
       other : (n : ℕ) → 1 < n → cond (n == 1) k no_kind ≡ no_kind
       other n h = ap (λ b. cond b k no_kind) (ne_eqb n 1 (λ e. omega arith))
 
-  pub single_lawful : Lawful (single_set m g)
-  single_lawful = alone_lawful (single m g) single_laws
+  form_laws : (f : Form) → KindLaws g.order (form_kind m g f)
+  form_laws Single = single_laws
+  form_laws Twin = twin_laws
+  form_laws Mixed = mixed_laws
 
-  pub twin_lawful : Lawful (twin_set m g)
-  twin_lawful = alone_lawful (twin m g) twin_laws
-
-  pub mixed_lawful : Lawful (mixed_set m g)
-  mixed_lawful = alone_lawful (mixed m g) mixed_laws
+  pub form_lawful : (f : Form) → Lawful (form_set m g f)
+  form_lawful f = alone_lawful (form_kind m g f) (form_laws f)

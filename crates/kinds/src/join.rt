@@ -2,7 +2,7 @@
 ghost use Rattle.std.specs.Prelude.{◌≡◌, ◌&&◌, IfOk, nat_lt};
 ghost use Rattle.refusals.specs.Checks.{told};
 ghost use Rattle.kinds.specs.Kinds.{images};
-ghost use Rattle.kinds.specs.Joins.{join as both, fits, join_refusal};
+ghost use Rattle.kinds.specs.Joins.{join as both, IsSide, fits, join_refusal};
 ghost use Rattle.kinds.specs.Sets.{images_laws};
 ghost use Rattle.kinds.specs.JoinLaws.{join_lawful};
 ghost use Rattle.std.proofs.Common.{rules};
@@ -10,11 +10,25 @@ ghost use Rattle.std.proofs.Common.{rules};
 use crate::asked::{neutral_image, product_of_images};
 use crate::image::Image;
 use crate::leaf_kinds::LeafKinds;
+use crate::side::Side;
 use fields::Scalar;
 use groups::Monoid;
 use refusals::Refusal;
 
-#[derive(Drop)]
+// Refuses two sets that differ in q, or have too many kinds together.
+fn check_sides<L: LeafKinds, R: LeafKinds>(left: &L, right: &R) -> Result<(), Refusal>
+    ensures { told result ≡ join_refusal (L.LeafKinds.meaning left.now) (R.LeafKinds.meaning right.now) }
+{
+    if left.order() != right.order() {
+        return Err(Refusal::OrdersDiffer);
+    }
+    if left.count() as u16 + right.count() as u16 > 255 {
+        return Err(Refusal::TooManyKinds);
+    }
+    Ok(())
+}
+
+#[derive(Clone, Copy, Drop)]
 pub struct Join<L: LeafKinds, R: LeafKinds> {
     pub left: L,
     pub right: R,
@@ -29,27 +43,26 @@ impl<L: LeafKinds, R: LeafKinds> Join<L, R> {
         ensures refuses { told result ≡ join_refusal (L.LeafKinds.meaning left) (R.LeafKinds.meaning right) }
         ensures makes { IfOk result (λ s. (s.left ≡ left) × (s.right ≡ right)) }
     {
-        if left.order() != right.order() {
-            return Err(Refusal::OrdersDiffer);
-        }
-        if left.count() as u16 + right.count() as u16 > 255 {
-            return Err(Refusal::TooManyKinds);
-        }
+        check_sides(&left, &right)?;
         Ok(Join { left, right })
     }
 
     fn fitting(&self) -> bool
         ensures { result ≡ fits (L.LeafKinds.meaning self.now.left) (R.LeafKinds.meaning self.now.right) }
     {
-        self.left.order() == self.right.order()
-            && self.left.count() as u16 + self.right.count() as u16 <= 255
+        check_sides(&self.left, &self.right).is_ok()
     }
 
-    // Whether a kind number is one of the right's.
-    fn on_right(&self, kind: u8) -> bool
-        ensures { result ≡ (fits (L.LeafKinds.meaning self.now.left) (R.LeafKinds.meaning self.now.right) && nat_lt (L.LeafKinds.meaning self.now.left).count kind) }
+    // Whose kind a number is: where the sides do not fit, each number is the left's.
+    fn side(&self, kind: u8) -> Side
+        ensures { IsSide (L.LeafKinds.meaning self.now.left) (R.LeafKinds.meaning self.now.right) kind result }
     {
-        self.fitting() && self.left.count() < kind
+        let count = self.left.count();
+        if kind > count && self.fitting() {
+            Side::Right(kind - count)
+        } else {
+            Side::Left(kind)
+        }
     }
 }
 
@@ -63,18 +76,16 @@ impl<L: LeafKinds, R: LeafKinds> Monoid for Join<L, R> {
     ghost multiplies = { λ s n. images_laws _ (join_lawful _ _ (L.LeafKinds.lawful s.left) (R.LeafKinds.lawful s.right)) n };
 
     fn neutral(&self, kind: u8) -> Image {
-        if self.on_right(kind) {
-            neutral_image(&self.right, kind - self.left.count())
-        } else {
-            neutral_image(&self.left, kind)
+        match self.side(kind) {
+            Side::Left(kind) => neutral_image(&self.left, kind),
+            Side::Right(kind) => neutral_image(&self.right, kind),
         }
     }
 
     fn product(&self, kind: u8, a: &Image, b: &Image) -> Image {
-        if self.on_right(kind) {
-            product_of_images(&self.right, kind - self.left.count(), a, b)
-        } else {
-            product_of_images(&self.left, kind, a, b)
+        match self.side(kind) {
+            Side::Left(kind) => product_of_images(&self.left, kind, a, b),
+            Side::Right(kind) => product_of_images(&self.right, kind, a, b),
         }
     }
 }
@@ -99,26 +110,23 @@ impl<L: LeafKinds, R: LeafKinds> LeafKinds for Join<L, R> {
     }
 
     fn width(&self, kind: u8) -> u8 {
-        if self.on_right(kind) {
-            self.right.width(kind - self.left.count())
-        } else {
-            self.left.width(kind)
+        match self.side(kind) {
+            Side::Left(kind) => self.left.width(kind),
+            Side::Right(kind) => self.right.width(kind),
         }
     }
 
     fn is_image(&self, kind: u8, image: &Image) -> bool {
-        if self.on_right(kind) {
-            self.right.is_image(kind - self.left.count(), image)
-        } else {
-            self.left.is_image(kind, image)
+        match self.side(kind) {
+            Side::Left(kind) => self.left.is_image(kind, image),
+            Side::Right(kind) => self.right.is_image(kind, image),
         }
     }
 
     fn image_of_key(&self, kind: u8, key: (Scalar, Scalar)) -> Image {
-        if self.on_right(kind) {
-            self.right.image_of_key(kind - self.left.count(), key)
-        } else {
-            self.left.image_of_key(kind, key)
+        match self.side(kind) {
+            Side::Left(kind) => self.left.image_of_key(kind, key),
+            Side::Right(kind) => self.right.image_of_key(kind, key),
         }
     }
 }

@@ -2,20 +2,18 @@
 #![tactic(auto)]
 
 mod asked;
-mod coding;
+mod form;
 mod image;
 mod join;
 mod leaf_kinds;
-mod mixed;
-mod single;
-mod twin;
+mod one_kind;
+mod side;
 
 pub use asked::{
     image_power, image_product, is_key, key_image, neutral_image, power_of_image, product_of_images,
 };
+pub use form::Form;
 pub use image::Image;
 pub use join::Join;
 pub use leaf_kinds::LeafKinds;
-pub use mixed::Mixed;
-pub use single::Single;
-pub use twin::Twin;
+pub use one_kind::OneKind;
