@@ -1,7 +1,7 @@
 -- Sets that are written out as lists: a set of one kind, and joins.
 use Rattle.std.proofs.Common.{◌≡◌, ℕ, zero, suc, ◌+◌, ◌-◌, ◌<◌, ◌≤◌, true, false, cond, ◌&&◌, eqb, ltb, leb, ◌⊎◌, List, [], ◌∷◌, ◌++◌, length, get_or, sym, refl, ap, ◌∙◌, ap₂, inl, inr, arith, length-append}
 use Rattle.std.proofs.lemmas.List.{get_or-append_right}
-use Rattle.std.proofs.lemmas.Bool.{cases_Bool, ltb-true, ltb-false, eq-eqb, ne_eqb, le-leb, and_from}
+use Rattle.std.proofs.lemmas.Bool.{cases_Bool, cond-false, ltb-true, ltb-false, eq-eqb, ne_eqb, le-leb, and_from}
 use Rattle.kinds.specs.Kinds.{Kind, no_kind}
 use Rattle.kinds.specs.Coded.{alone}
 use Rattle.kinds.specs.Joins.{fits, join}
@@ -13,7 +13,7 @@ alone_listed q k = λ t. record { q = q; count = 1; kind = λ n. at n t }
     at : (n : ℕ) → cond (eqb n 1) k no_kind ≡ get_or (no_kind ∷ k ∷ []) n no_kind
     at zero = refl
     at (suc zero) = refl
-    at (suc (suc n)) = ap (λ b. cond b k no_kind) (ne_eqb (suc (suc n)) 1 (λ e. omega arith))
+    at (suc (suc n)) = cond-false (eqb (suc (suc n)) 1) k no_kind (ne_eqb (suc (suc n)) 1 (λ e. omega arith))
 
 module _ (q : ℕ) (ks ls : List Kind) (few : length ks + length ls ≤ 255) where
   fitting : fits (set_of q ks) (set_of q ls) ≡ true

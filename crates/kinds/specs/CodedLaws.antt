@@ -2,6 +2,7 @@
 use Rattle.std.specs.Prelude.{◌≡◌, ℕ, zero, suc, ◌<◌, ◌≤◌, Bool, false, cond, ◌&&◌, T, is_some, Some, None, Option}
 use Rattle.std.proofs.Math.Path.{refl, ap}
 use Rattle.std.proofs.Common.{sym, ap₂, subst, ◌∙◌}
+use Rattle.std.proofs.lemmas.Bool.{cond-false}
 use Rattle.groups.specs.Monoids.{MonoidModel, MonoidLaws, power}
 use Rattle.groups.specs.Powers.{power_in}
 use Rattle.groups.specs.Passing.{picks}
@@ -28,10 +29,7 @@ found (Some x) t = (x, refl)
 unread : {E : Type 0} (m : MonoidModel E) (c : Coding E) (a b : Option E) → (is_some a && is_some b) ≡ false → combined m c a b ≡ zeros
 unread m c None b e = refl
 unread m c (Some x) None e = refl
-unread m c (Some x) (Some y) e = absurd (subst (λ t. cond t (Unit {0}) ⊥) e tt)
-
-none_picks : {X : Type 0} (b : Bool) (x y : X) → b ≡ false → cond b x y ≡ y
-none_picks b x y e = ap (λ t. cond t x y) e
+unread m c (Some x) (Some y) e = cc
 
 module _ {E : Type 0} {m : MonoidModel E} {c : Coding E} (laws : MonoidLaws m) (codes : CodingLaws m c) (q n : ℕ) (open' : Key → E) where
   abbrev kind : Kind
@@ -102,5 +100,5 @@ module _ {E : Type 0} {m : MonoidModel E} {c : Coding E} (laws : MonoidLaws m) (
         im (add_keys q v w) (key_adds q n pos v w h k) ∙ ap c.encode (opening.adds v w h k)
         ∙ sym (times_is (kind.image v) (kind.image w) (open' v) (open' w) (rd v h) (rd w k));
     no_product = λ i j e. unread m c (c.decode i) (c.decode j) e;
-    no_key = λ w e. none_picks (is_key q n w) (c.encode (open' w)) zeros e;
+    no_key = λ w e. cond-false (is_key q n w) (c.encode (open' w)) zeros e;
   }

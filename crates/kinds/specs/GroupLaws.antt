@@ -2,7 +2,7 @@
 use Rattle.std.specs.Prelude.{◌≡◌, ℕ, zero, suc, ◌<◌, Bool, true, false, cond, ◌&&◌, T, Some, None, Option, ◌==◌, refl}
 use Rattle.std.proofs.Common.{sym, ap, ap₂, subst, ◌∙◌, arith, eqb→eq, lit≤}
 use Rattle.std.specs.Float.Ieee.Fits.{and_i, and_l, and_r}
-use Rattle.std.proofs.lemmas.Bool.{ne_eqb}
+use Rattle.std.proofs.lemmas.Bool.{cond-false, ne_eqb}
 use Rattle.fields.specs.Modular.{sum_mod}
 use Rattle.groups.specs.Monoids.{MonoidModel, MonoidLaws, power}
 use Rattle.groups.specs.Groups.{GroupModel, GroupLaws}
@@ -11,7 +11,7 @@ use Rattle.groups.proofs.Exponents.{power_sum}
 use Rattle.groups.specs.Torsion.{exchange}
 use Rattle.kinds.specs.Kinds.{Kind, no_kind, KindLaws, Lawful}
 use Rattle.kinds.specs.Coded.{alone}
-use Rattle.kinds.specs.GroupKinds.{one_element, paired, two_elements, pairs, single, twin, mixed, form_kind, form_set}
+use Rattle.kinds.specs.GroupKinds.{one_element, paired, two_elements, pairs, form_kind, form_set}
 use Rattle.kinds.specs.declared.form.Form.{Form}
 use Rattle.kinds.specs.declared.form.Form.TheVariants.{Single, Twin, Mixed}
 use Rattle.kinds.specs.CodedLaws.{CodingLaws, coded_laws}
@@ -31,7 +31,7 @@ module _ {E : Type 0} {m : MonoidModel E} {g : GroupModel E} (laws : MonoidLaws 
   -- read only where the last two words are zeros
   guarded : (b : Bool) (o : Option E) (x : E) → cond b o None ≡ Some x → T b × (o ≡ Some x)
   guarded true o x e = (tt, e)
-  guarded false o x e = absurd (let z : ◌≡◌ {A = ℕ} 0 1 = cc in let w = z in omega arith)
+  guarded false o x e = cc
 
   pub one_element_laws : CodingLaws m (one_element g)
   one_element_laws = record {
@@ -46,9 +46,16 @@ module _ {E : Type 0} {m : MonoidModel E} {g : GroupModel E} (laws : MonoidLaws 
   }
 
   parts : (a b : Option E) (x : E × E) → paired a b ≡ Some x → (a ≡ Some x.0) × (b ≡ Some x.1)
-  parts None b x e = absurd (let z : ◌≡◌ {A = ℕ} 0 1 = cc in let w = z in omega arith)
-  parts (Some u) None x e = absurd (let z : ◌≡◌ {A = ℕ} 0 1 = cc in let w = z in omega arith)
+  parts None b x e = cc
+  parts (Some u) None x e = cc
   parts (Some u) (Some v) x e = (cc, cc)
+
+  -- both parts of a pair are elements
+  fst : (x : E × E) → T ((pairs m).member x) → T (m.member x.0)
+  fst x h = and_l (m.member x.0) (m.member x.1) h
+
+  snd : (x : E × E) → T ((pairs m).member x) → T (m.member x.1)
+  snd x h = and_r (m.member x.0) (m.member x.1) h
 
   pub pairs_laws : MonoidLaws (pairs m)
   pairs_laws = record {
@@ -58,16 +65,10 @@ module _ {E : Type 0} {m : MonoidModel E} {g : GroupModel E} (laws : MonoidLaws 
     comm = λ x y hx hy. ap₂ (λ (u v : E). (u, v)) (laws.comm x.0 y.0 (fst x hx) (fst y hy)) (laws.comm x.1 y.1 (snd x hx) (snd y hy));
     one_left = λ x hx. ap₂ (λ (u v : E). (u, v)) (laws.one_left x.0 (fst x hx)) (laws.one_left x.1 (snd x hx));
   }
-    where
-      fst : (x : E × E) → T (m.member x.0 && m.member x.1) → T (m.member x.0)
-      fst x h = and_l (m.member x.0) (m.member x.1) h
-
-      snd : (x : E × E) → T (m.member x.0 && m.member x.1) → T (m.member x.1)
-      snd x h = and_r (m.member x.0) (m.member x.1) h
 
   pub two_elements_laws : CodingLaws (pairs m) (two_elements g)
   two_elements_laws = record {
-    reads = λ x h. ap₂ paired (group.reads_words x.0 (and_l (m.member x.0) (m.member x.1) h)) (group.reads_words x.1 (and_r (m.member x.0) (m.member x.1) h));
+    reads = λ x h. ap₂ paired (group.reads_words x.0 (fst x h)) (group.reads_words x.1 (snd x h));
     inside = λ i x e.
         let p = parts (g.reads i.0) (g.reads i.1) x e in
         and_i (m.member x.0) (m.member x.1) (group.reads_in i.0 x.0 p.0).0 (group.reads_in i.1 x.1 p.1).0;
@@ -94,24 +95,20 @@ module _ {E : Type 0} {m : MonoidModel E} {g : GroupModel E} (laws : MonoidLaws 
   pairs_turn : (x : E × E) → T ((pairs m).member x) → power (pairs m) x g.order ≡ (m.one, m.one)
   pairs_turn x h =
       pairs_power m x g.order
-      ∙ ap₂ (λ (u v : E). (u, v)) (group.ordered x.0 (and_l (m.member x.0) (m.member x.1) h)) (group.ordered x.1 (and_r (m.member x.0) (m.member x.1) h))
+      ∙ ap₂ (λ (u v : E). (u, v)) (group.ordered x.0 (fst x h)) (group.ordered x.1 (snd x h))
 
-  single_laws : KindLaws g.order (single m g)
-  single_laws =
+  form_laws : (f : Form) → KindLaws g.order (form_kind m g f)
+  form_laws Single =
       coded_laws laws one_element_laws g.order 1 (λ w. power m g.base_g w.0.0) one pos (lit≤ tt) (lit≤ tt) group.ordered
       (record { inside = λ w _. g_power_in w.0.0; adds = λ v w _ _. g_sum v.0.0 w.0.0 })
-
-  twin_laws : KindLaws g.order (twin m g)
-  twin_laws =
+  form_laws Twin =
       coded_laws pairs_laws two_elements_laws g.order 1 (λ w. (power m g.base_g w.0.0, power m g.base_h w.0.0))
       (and_i (m.member m.one) (m.member m.one) one one) pos (lit≤ tt) (lit≤ tt) pairs_turn
       (record {
         inside = λ w _. and_i _ _ (g_power_in w.0.0) (h_power_in w.0.0);
         adds = λ v w _ _. ap₂ (λ (x y : E). (x, y)) (g_sum v.0.0 w.0.0) (h_sum v.0.0 w.0.0);
       })
-
-  mixed_laws : KindLaws g.order (mixed m g)
-  mixed_laws =
+  form_laws Mixed =
       coded_laws laws one_element_laws g.order 2 (λ w. m.times (power m g.base_g w.0.0) (power m g.base_h w.1.0)) one pos (lit≤ tt) (lit≤ tt)
       group.ordered
       (record {
@@ -130,16 +127,8 @@ module _ {E : Type 0} {m : MonoidModel E} {g : GroupModel E} (laws : MonoidLaws 
     few = lit≤ tt;
     each = λ n low high. let one : 1 ≡ n = omega arith in subst (λ i. KindLaws g.order (cond (i == 1) k no_kind)) one l;
     none = refl;
-    others = λ n h. other n h;
+    others = λ n h. cond-false (n == 1) k no_kind (ne_eqb n 1 (λ e. omega arith));
   }
-    where
-      other : (n : ℕ) → 1 < n → cond (n == 1) k no_kind ≡ no_kind
-      other n h = ap (λ b. cond b k no_kind) (ne_eqb n 1 (λ e. omega arith))
-
-  form_laws : (f : Form) → KindLaws g.order (form_kind m g f)
-  form_laws Single = single_laws
-  form_laws Twin = twin_laws
-  form_laws Mixed = mixed_laws
 
   pub form_lawful : (f : Form) → Lawful (form_set m g f)
   form_lawful f = alone_lawful (form_kind m g f) (form_laws f)

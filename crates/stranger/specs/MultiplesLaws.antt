@@ -5,16 +5,17 @@ use Rattle.std.proofs.Math.Path.{ap}
 use Rattle.std.proofs.Math.Nat.{add-mod-mod, mod-add-mod, zero-mod}
 use native.Mathlib.Omega.{arith}
 use Rattle.std.specs.Float.Ieee.Fits.{and_i}
-use Rattle.std.proofs.lemmas.Bool.{and_right, lt-leb}
+use Rattle.std.proofs.lemmas.Bool.{cond-false, and_right, lt-leb}
 use Rattle.fields.specs.Primes.{Prime}
 use Rattle.fields.specs.Modular.{sum_mod, product_mod}
 use Rattle.fields.specs.Residual.{mod_mul_mod}
 use Rattle.groups.specs.Monoids.{MonoidLaws, power}
+use Rattle.groups.specs.Passing.{picks}
 use Rattle.kinds.specs.Kinds.{Key, zeros, Kind, no_kind, images, is_key, add_keys, KindLaws, Lawful}
 use Rattle.kinds.specs.declared.image.Image.{Image}
 use Rattle.kinds.specs.Keys.{key_adds}
 use Rattle.stranger.specs.Multiples.{written, is_written, multiples, multiples_set}
-use Rattle.stranger.specs.Numbers.{picked, passed, below, written_in, same, one_more, whole}
+use Rattle.stranger.specs.Numbers.{below, written_in, same, one_more, whole}
 
 module _ (q : ℕ) (pos : 0 < q) (b : ℕ) where
   abbrev kind : Kind
@@ -27,7 +28,7 @@ module _ (q : ℕ) (pos : 0 < q) (b : ℕ) where
   sum_in n = written_in q (n % q) (mod-lt n pos)
 
   sum_is : (x y : Image) → Is x → Is y → kind.product x y ≡ written (sum_mod q x.0.0 y.0.0)
-  sum_is x y h k = picked (is_written q x && is_written q y) _ zeros (and_i (is_written q x) (is_written q y) h k)
+  sum_is x y h k = picks (is_written q x && is_written q y) _ zeros (and_i (is_written q x) (is_written q y) h k)
 
   product_in : (x y : Image) → Is x → Is y → Is (kind.product x y)
   product_in x y h k = subst Is (sym (sum_is x y h k)) (sum_in (x.0.0 + y.0.0))
@@ -52,7 +53,7 @@ module _ (q : ℕ) (pos : 0 < q) (b : ℕ) where
       ap (kind.product x) (nth x h n) ∙ sum_is x (written (n * x.0.0 % q)) h (sum_in (n * x.0.0)) ∙ ap written (one_more q n x.0.0)
 
   image_is : (w : Key) → T (is_key q 1 w) → kind.image w ≡ written (product_mod q w.0.0 b)
-  image_is w h = picked (is_key q 1 w) _ zeros h
+  image_is w h = picks (is_key q 1 w) _ zeros h
 
   image_in : (w : Key) → T (is_key q 1 w) → Is (kind.image w)
   image_in w h = subst Is (sym (image_is w h)) (sum_in (w.0.0 * b))
@@ -73,8 +74,8 @@ module _ (q : ℕ) (pos : 0 < q) (b : ℕ) where
     exponent = λ x h. nth x h q ∙ ap written (whole q x.0.0);
     image_in = image_in;
     adds = adds;
-    no_product = λ x y e. passed (is_written q x && is_written q y) _ zeros e;
-    no_key = λ w e. passed (is_key q 1 w) _ zeros e;
+    no_product = λ x y e. cond-false (is_written q x && is_written q y) _ zeros e;
+    no_key = λ w e. cond-false (is_key q 1 w) _ zeros e;
   }
 
 module _ (q g n : ℕ) (prime : Prime q) (low : 11 ≤ q) (high : q ≤ 2147483647) (few : n ≤ 255) where
@@ -88,8 +89,8 @@ module _ (q g n : ℕ) (prime : Prime q) (low : 11 ≤ q) (high : q ≤ 21474836
     high = high;
     few = few;
     each = λ k one last.
-        subst (KindLaws q) (sym (picked (nat_lt 0 k && nat_le k n) (multiples q (product_mod q k g)) no_kind (and_i (nat_lt 0 k) (nat_le k n) (lt→ltb 0 k (omega arith)) (le→leb k n last))))
+        subst (KindLaws q) (sym (picks (nat_lt 0 k && nat_le k n) (multiples q (product_mod q k g)) no_kind (and_i (nat_lt 0 k) (nat_le k n) (lt→ltb 0 k (omega arith)) (le→leb k n last))))
         (multiples_laws q pos (product_mod q k g));
     none = refl;
-    others = λ k past. passed (nat_lt 0 k && nat_le k n) (multiples q (product_mod q k g)) no_kind (and_right (nat_lt 0 k) (nat_le k n) (lt-leb k n past));
+    others = λ k past. cond-false (nat_lt 0 k && nat_le k n) (multiples q (product_mod q k g)) no_kind (and_right (nat_lt 0 k) (nat_le k n) (lt-leb k n past));
   }

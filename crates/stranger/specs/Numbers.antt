@@ -1,17 +1,10 @@
 -- Numbers below q as images, and their sums.
-use Rattle.std.specs.Prelude.{◌≡◌, ℕ, suc, ◌+◌, ◌*◌, ◌%◌, ◌<◌, Bool, true, false, cond, T, ◌==◌, nat_lt, refl}
+use Rattle.std.specs.Prelude.{◌≡◌, ℕ, suc, ◌+◌, ◌*◌, ◌%◌, ◌<◌, true, T, ◌==◌, nat_lt}
 use Rattle.std.proofs.Common.{sym, ap, ◌∙◌, arith, ltb→lt, lt→ltb, eqb→eq}
 use Rattle.std.proofs.Math.Nat.{add-mod-mod, zero-mod, add-mul-mod_self_left}
 use Rattle.std.specs.Float.Ieee.Fits.{and_i, and_l, and_r}
 use Rattle.kinds.specs.declared.image.Image.{Image}
 use Rattle.stranger.specs.Multiples.{written, is_written}
-
-pub picked : {X : Type 0} (b : Bool) (x y : X) → T b → cond b x y ≡ x
-picked true x y t = refl
-picked false x y t = absurd t
-
-pub passed : {X : Type 0} (b : Bool) (x y : X) → b ≡ false → cond b x y ≡ y
-passed b x y e = ap (λ t. cond t x y) e
 
 module _ (q : ℕ) where
   pub below : (x : Image) → T (is_written q x) → x.0.0 < q

@@ -11,11 +11,8 @@ impl Multiples {
     pub fn new(q: u32, g: u32, count: u8) -> Result<Multiples, Refusal>
         ensures { MatchResult result (λ s. (s.scalars.q ≡ q) × (s.base.0 ≡ g) × (s.count ≡ count)) (Refused q g) }
     {
-        let scalars = match Scalars::new(q) {
-            Ok(scalars) => scalars,
-            Err(why) => return Err(why),
-        };
-        if g == 0 || g >= q {
+        let scalars = Scalars::new(q)?;
+        if !(1..q).contains(&g) {
             return Err(Refusal::UnfitBase(Base::First));
         }
         Ok(Multiples {

@@ -15,16 +15,15 @@ impl Multiples {
     fn has(&self, kind: u8) -> bool
         ensures { result ≡ (nat_lt 0 kind && nat_le kind self.now.count) }
     {
-        kind > 0 && kind <= self.count
+        (1..=self.count).contains(&kind)
     }
 
     // Whether an image is a number below q.
     fn is_number(&self, image: &Image) -> bool
         ensures { result ≡ numbered self.now.scalars.q image.now }
     {
-        let (a, b) = image.0;
-        let (c, d) = image.1;
-        a < self.scalars.order() && b == 0 && c == 0 && d == 0
+        let number = image.0.0;
+        number < self.scalars.order() && *image == Image((number, 0), (0, 0))
     }
 }
 
@@ -38,7 +37,7 @@ impl Monoid for Multiples {
     ghost multiplies = { λ s n. images_laws _ (multiples_lawful s.scalars.q s.base.0 s.count s.scalars.prime s.scalars.low s.scalars.high s.few) n };
 
     fn neutral(&self, _kind: u8) -> Image {
-        Image((0, 0), (0, 0))
+        Image::ZEROS
     }
 
     fn product(&self, _kind: u8, a: &Image, b: &Image) -> Image {

@@ -1,6 +1,7 @@
 -- The supplied set: the three kinds over a residue group, then the three over a circle group.
 --   three m g    single, twin and mixed over the group g, whose elements multiply by m
 --   six r c      the six kinds, in the order of their numbers
+--   three_of x   the three sets over the group x, joined, as the code makes them
 --   SuppliedSet  the type Supplied of the code
 --   meant s      what the interface answers at a value of this type
 use Rattle.std.specs.Prelude.{List, [], ◌∷◌, ◌++◌}
@@ -11,12 +12,11 @@ use Rattle.groups.specs.Circles.{Pair, circle_elements, circle_model}
 use Rattle.groups.specs.declared.residue.Residue.{Residue}
 use Rattle.groups.specs.PrimeGroups.{ResidueGroup, CircleGroup}
 use Rattle.kinds.specs.Kinds.{Kind, KindModel}
-use Rattle.kinds.specs.GroupKinds.{single, twin, mixed, single_set, twin_set, mixed_set}
+use Rattle.kinds.specs.GroupKinds.{single, twin, mixed, form_set}
 use Rattle.kinds.specs.Joins.{join}
 use Rattle.kinds.specs.declared.join.Join.{Join}
-use Rattle.kinds.specs.declared.single.Single.{Single}
-use Rattle.kinds.specs.declared.twin.Twin.{Twin}
-use Rattle.kinds.specs.declared.mixed.Mixed.{Mixed}
+use Rattle.kinds.specs.declared.one_kind.OneKind.{OneKind}
+use Rattle.kinds.specs.declared.form.Form.TheVariants.{Single, Twin, Mixed}
 
 abbrev pub three : {E : Type 0} → MonoidModel E → GroupModel E → List Kind
 three m g = single m g ∷ twin m g ∷ mixed m g ∷ []
@@ -38,15 +38,22 @@ abbrev pub six : ResidueGroup → CircleGroup → List Kind
 six r c = three (residue_product r) (residue_group r) ++ three (circle_product c) (circle_group c)
 
 abbrev pub Three : Type 0 → Type 0 → Type 0
-Three G E = Join (Join (Single G E) (Twin G E)) (Mixed G E)
+Three G E = Join (Join (OneKind G E) (OneKind G E)) (OneKind G E)
+
+abbrev pub three_of : {G E : Type 0} → G → Three G E
+three_of x = record {
+  left = record { left = record { group = x; form = Single }; right = record { group = x; form = Twin } };
+  right = record { group = x; form = Mixed };
+}
 
 abbrev pub SuppliedSet : Type 0
 SuppliedSet = Join (Three ResidueGroup Residue) (Three CircleGroup Pair)
 
+abbrev pub one_set : {G E : Type 0} → (G → MonoidModel E) → (G → GroupModel E) → OneKind G E → KindModel
+one_set m g s = form_set (m s.group) (g s.group) s.form
+
 abbrev pub three_sets : {G E : Type 0} → (G → MonoidModel E) → (G → GroupModel E) → Three G E → KindModel
-three_sets m g s =
-    join (join (single_set (m s.left.left.group) (g s.left.left.group)) (twin_set (m s.left.right.group) (g s.left.right.group)))
-    (mixed_set (m s.right.group) (g s.right.group))
+three_sets m g s = join (join (one_set m g s.left.left) (one_set m g s.left.right)) (one_set m g s.right)
 
 abbrev pub meant : SuppliedSet → KindModel
 meant s = join (three_sets residue_product residue_group s.left) (three_sets circle_product circle_group s.right)

@@ -6,27 +6,36 @@ ghost use Rattle.refusals.specs.Checks.{told, unless};
 ghost use Rattle.refusals.specs.declared.Refusal.TheVariants.{OrdersDiffer};
 ghost use Rattle.kinds.specs.Kinds.{no_kind};
 ghost use Rattle.kinds.specs.Numbered.{set_of};
-ghost use Rattle.supplied.specs.Supplied.{six, meant};
+ghost use Rattle.supplied.specs.Supplied.{three_of, six, meant};
 
 use fields::Scalar;
 use groups::{CircleGroup, Group, ResidueGroup};
-use kinds::{Image, Join, LeafKinds, Mixed, Single, Twin, key_image};
+use kinds::{Form, Image, Join, LeafKinds, OneKind, key_image};
 use refusals::Refusal;
 
 // The three kinds over one group.
-pub type Three<G> = Join<Join<Single<G>, Twin<G>>, Mixed<G>>;
+pub type Three<G> = Join<Join<OneKind<G>, OneKind<G>>, OneKind<G>>;
 
 pub type Supplied = Join<Three<ResidueGroup>, Three<CircleGroup>>;
 
 fn three<G: Group + Copy>(group: G) -> Three<G>
-    ensures { (result.left.left.group ≡ group) × (result.left.right.group ≡ group) × (result.right.group ≡ group) }
+    ensures { result ≡ three_of group }
 {
     Join {
         left: Join {
-            left: Single { group },
-            right: Twin { group },
+            left: OneKind {
+                group,
+                form: Form::Single,
+            },
+            right: OneKind {
+                group,
+                form: Form::Twin,
+            },
         },
-        right: Mixed { group },
+        right: OneKind {
+            group,
+            form: Form::Mixed,
+        },
     }
 }
 
