@@ -9,9 +9,10 @@ use Rattle.groups.specs.ResidueLaws.{residue_monoid, residue_laws}
 use Rattle.groups.specs.CircleLaws.{circle_group_monoid, circle_laws}
 use Rattle.kinds.specs.Kinds.{Lawful}
 use Rattle.kinds.specs.declared.image.Image.{Image}
-use Rattle.kinds.specs.GroupLaws.{single_lawful, twin_lawful, mixed_lawful}
+use Rattle.kinds.specs.GroupLaws.{form_lawful}
+use Rattle.kinds.specs.declared.form.Form.TheVariants.{Single, Twin, Mixed}
 use Rattle.kinds.specs.JoinLaws.{join_lawful}
-use Rattle.supplied.specs.Supplied.{Three}
+use Rattle.supplied.specs.Supplied.{three_of}
 use Rattle.supplied.proofs.SixKinds.{six_listed}
 use Rattle.rules.specs.Grammar.{Rule, key as key_item, gate as gate_item, none as no_more, more, decimal, opening, Legal}
 use Rattle.rules.specs.Texts.{Means, Read}
@@ -47,19 +48,14 @@ formed = well_formed grammar legal
 pub table_read : Read text rows
 table_read = record { means = means; only = λ es m. one_table text rows es means m; well_formed = formed }
 
-abbrev three_of : {G E : Type 0} → G → Three G E
-three_of g = record { left = record { left = record { group = g }; right = record { group = g } }; right = record { group = g } }
-
 lawful : Lawful kinds
 lawful =
-    let r-monoid = residue_monoid 11 23 (residue 4) (residue 9) residues.passed in
-    let r-laws = residue_laws 11 23 (residue 4) (residue 9) residues.passed in
-    let c-monoid = circle_group_monoid 11 43 (pair 2 13) (pair 26 23) circle.passed in
-    let c-laws = circle_laws 11 43 (pair 2 13) (pair 26 23) circle.passed in
-    subst Lawful (six_listed residues circle (three_of residues) (three_of circle) (refl, refl, refl) (refl, refl, refl) refl)
+    let r = form_lawful (residue_monoid 11 23 (residue 4) (residue 9) residues.passed) (residue_laws 11 23 (residue 4) (residue 9) residues.passed) in
+    let c = form_lawful (circle_group_monoid 11 43 (pair 2 13) (pair 26 23) circle.passed) (circle_laws 11 43 (pair 2 13) (pair 26 23) circle.passed) in
+    subst Lawful (six_listed residues circle (three_of residues) (three_of circle) refl refl refl)
     (join_lawful _ _
-    (join_lawful _ _ (join_lawful _ _ (single_lawful r-monoid r-laws) (twin_lawful r-monoid r-laws)) (mixed_lawful r-monoid r-laws))
-    (join_lawful _ _ (join_lawful _ _ (single_lawful c-monoid c-laws) (twin_lawful c-monoid c-laws)) (mixed_lawful c-monoid c-laws)))
+    (join_lawful _ _ (join_lawful _ _ (r Single) (r Twin)) (r Mixed))
+    (join_lawful _ _ (join_lawful _ _ (c Single) (c Twin)) (c Mixed)))
 
 pub ring_read : ring_refusal kinds ring ≡ None
 unfolding power

@@ -55,7 +55,11 @@ mod tests {
     fn no_keys(rt: HostRuntime) -> Result<(), Fail> {
         let set = six()?;
         for (kind, u, v) in [(2, 5, 1), (1, 11, 0), (6, 1, 11), (7, 0, 0)] {
-            assert_eq!(rt; key_image(&set, kind, key(u, v)), Image::ZEROS, "kind {kind}");
+            assert_eq!(rt;
+                key_image(&set, kind, key(u, v)),
+                Image::ZEROS,
+                "kind {kind}"
+            );
         }
         Ok(())
     }
@@ -125,7 +129,11 @@ mod tests {
             assert_eq!(rt; set.width(kind), width_by_hand(kind), "kind {kind}");
             assert_eq!(rt; neutral_image(&set, kind), neutral, "kind {kind}");
             assert_eq!(rt; key_image(&set, kind, key(0, 0)), neutral, "kind {kind}");
-            assert_eq!(rt; set.is_image(kind, &neutral), (1..=6).contains(&kind), "kind {kind}");
+            assert_eq!(rt;
+                set.is_image(kind, &neutral),
+                (1..=6).contains(&kind),
+                "kind {kind}"
+            );
             assert!(rt; !set.is_image(kind, &Image::ZEROS), "kind {kind}");
         }
         Ok(())
@@ -171,7 +179,10 @@ mod tests {
         assert_eq!(rt; key_image(&set, 2, key(9, 0)), word(25));
         assert_eq!(rt; key_image(&set, 4, key(9, 0)), Image::ZEROS);
         assert_eq!(rt; image_product(&set, 3, &word(100), &word(2)), word(1));
-        assert_eq!(rt; image_product(&set, 3, &word(100), &word(101)), Image::ZEROS);
+        assert_eq!(rt;
+            image_product(&set, 3, &word(100), &word(101)),
+            Image::ZEROS
+        );
         Ok(())
     }
 

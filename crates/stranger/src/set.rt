@@ -1,7 +1,7 @@
 // The multiples as a set of leaf kinds.
 ghost use Rattle.std.specs.Prelude.{◌≡◌, ◌&&◌, nat_le, nat_lt};
 ghost use Rattle.kinds.specs.Kinds.{images};
-ghost use Rattle.stranger.specs.Multiples.{multiples_set as meant, is_written as numbered};
+ghost use Rattle.stranger.specs.Multiples.{written, multiples_set as meant, is_written as numbered};
 ghost use Rattle.kinds.specs.Sets.{images_laws};
 ghost use Rattle.stranger.specs.MultiplesLaws.{multiples_lawful};
 ghost use Rattle.std.proofs.Common.{rules, arith};
@@ -10,6 +10,13 @@ use crate::multiples::Multiples;
 use fields::{Field, Scalar};
 use groups::Monoid;
 use kinds::{Image, LeafKinds};
+
+// A number as an image.
+fn written(number: u32) -> Image
+    ensures { result ≡ written number }
+{
+    Image((number, 0), (0, 0))
+}
 
 impl Multiples {
     fn has(&self, kind: u8) -> bool
@@ -23,7 +30,7 @@ impl Multiples {
         ensures { result ≡ numbered self.now.scalars.q image.now }
     {
         let number = image.0.0;
-        number < self.scalars.order() && *image == Image((number, 0), (0, 0))
+        number < self.scalars.order() && *image == written(number)
     }
 }
 
@@ -41,10 +48,8 @@ impl Monoid for Multiples {
     }
 
     fn product(&self, _kind: u8, a: &Image, b: &Image) -> Image {
-        let (x, _) = a.0;
-        let (y, _) = b.0;
-        let sum = self.scalars.sum(Scalar::new(x), Scalar::new(y));
-        Image((sum.value(), 0), (0, 0))
+        let sum = self.scalars.sum(Scalar::new(a.0.0), Scalar::new(b.0.0));
+        written(sum.value())
     }
 }
 
@@ -74,6 +79,6 @@ impl LeafKinds for Multiples {
     fn image_of_key(&self, kind: u8, key: (Scalar, Scalar)) -> Image {
         let q = self.scalars.order();
         let base = fields::product_modulo(q, kind as u32, self.base.value());
-        Image((fields::product_modulo(q, key.0.value(), base), 0), (0, 0))
+        written(fields::product_modulo(q, key.0.value(), base))
     }
 }
