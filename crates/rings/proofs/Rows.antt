@@ -1,48 +1,41 @@
 -- Going through the rows of a rule: what is left after each.
-use Rattle.std.proofs.Common.{◌≡◌, ℕ, zero, suc, ◌+◌, ◌≤◌, List, [], ◌∷◌, ◌++◌, length, drop, Some, None, sym, refl, ap, ◌∙◌, append_assoc, arith}
-use mathlib.Core.Option.{some}
-use lib.ListN.{get_elem?}
+use Rattle.std.proofs.Common.{◌≡◌, ℕ, suc, ◌+◌, ◌<◌, List, [], ◌∷◌, ◌++◌, length, get_or, map, drop, Some, None, sym, ap, ◌∙◌, append_assoc}
+use Rattle.std.proofs.lemmas.List.{drop_more}
 use Rattle.refusals.specs.declared.Refusal.TheVariants.{NotInRing}
 use Rattle.rules.specs.Tables.{Row, leaf, node, leaves}
+use Rattle.rules.specs.Views.{row_of}
+use Rattle.rules.specs.declared.entry.Entry.{Entry}
 use Rattle.rings.specs.Pairings.{line_of, missing_at, with_line, pair_refusal, paired}
 use Rattle.rings.specs.declared.line.Line.{Line}
 
--- the rows from i on begin with the row at i
-pub dropped : (es : List Row) (i : ℕ) (e : Row) → get_elem? es i ≡ some e → drop i es ≡ e ∷ drop (i + 1) es
-dropped [] i e h = absurd (let z : ◌≡◌ {A = ℕ} 0 1 = cc in let w = z in omega arith)
-dropped (x ∷ es) zero e h = let s : x ≡ e = cc in ap (λ y. y ∷ es) s
-dropped (x ∷ es) (suc i) e h =
-    let s : suc i + 1 ≡ suc (i + 1) = omega arith in
-    dropped es i e h ∙ ap (λ j. e ∷ drop j (x ∷ es)) (sym s)
-
-pub none_left : (es : List Row) (i : ℕ) → length es ≤ i → drop i es ≡ []
-none_left [] zero h = refl
-none_left [] (suc i) h = refl
-none_left (x ∷ es) zero h = absurd (omega arith)
-none_left (x ∷ es) (suc i) h = none_left es i (omega arith)
+-- the rows from i on begin with that of the entry at i
+pub next_row : (entries : List Entry) (i : ℕ) (e : Entry) (r : Row) → i < length entries → e ≡ get_or entries i e → row_of e ≡ r → map row_of (drop i entries) ≡ r ∷ map row_of (drop (i + 1) entries)
+next_row entries i e r h is f = ap (map row_of) (drop_more entries i e h) ∙ ap (λ x. x ∷ map row_of (drop (i + 1) entries)) (ap row_of (sym is) ∙ f)
 
 -- a leaf with its line, a leaf without, and a gate
-module _ (es : List Row) (ls : List Line) (i : ℕ) where
-  pub leaf_missing : (n b : ℕ) → get_elem? es i ≡ some (leaf n b) → line_of ls n ≡ None → pair_refusal (drop i es) ls ≡ Some (NotInRing b)
-  leaf_missing n b h e = ap (λ r. pair_refusal r ls) (dropped es i (leaf n b) h) ∙ ap (λ o. missing_at o b (pair_refusal (drop (i + 1) es) ls)) e
+module _ (left rest : List Row) (ls : List Line) where
+  module _ (n b : ℕ) (is : left ≡ leaf n b ∷ rest) where
+    pub leaf_missing : line_of ls n ≡ None → pair_refusal left ls ≡ Some (NotInRing b)
+    leaf_missing e = ap (λ es. pair_refusal es ls) is ∙ ap (λ o. missing_at o b (pair_refusal rest ls)) e
 
-  pub leaf_refusal : (n b : ℕ) (l : Line) → get_elem? es i ≡ some (leaf n b) → line_of ls n ≡ Some l → pair_refusal (drop i es) ls ≡ pair_refusal (drop (i + 1) es) ls
-  leaf_refusal n b l h e = ap (λ r. pair_refusal r ls) (dropped es i (leaf n b) h) ∙ ap (λ o. missing_at o b (pair_refusal (drop (i + 1) es) ls)) e
+    pub leaf_counted : leaves left ≡ suc (leaves rest)
+    leaf_counted = ap leaves is
 
-  pub leaf_paired : (n b : ℕ) (l : Line) (before : List Line) → get_elem? es i ≡ some (leaf n b) → line_of ls n ≡ Some l
-      → (before ++ l ∷ []) ++ paired (drop (i + 1) es) ls ≡ before ++ paired (drop i es) ls
-  leaf_paired n b l before h e =
-      append_assoc before (l ∷ []) (paired (drop (i + 1) es) ls)
-      ∙ ap (λ r. before ++ r) (sym (ap (λ r. paired r ls) (dropped es i (leaf n b) h) ∙ ap (λ o. with_line o (paired (drop (i + 1) es) ls)) e))
+    module _ (l : Line) (e : line_of ls n ≡ Some l) where
+      pub leaf_refusal : pair_refusal left ls ≡ pair_refusal rest ls
+      leaf_refusal = ap (λ es. pair_refusal es ls) is ∙ ap (λ o. missing_at o b (pair_refusal rest ls)) e
 
-  pub leaf_counted : (n b : ℕ) → get_elem? es i ≡ some (leaf n b) → leaves (drop i es) ≡ suc (leaves (drop (i + 1) es))
-  leaf_counted n b h = ap leaves (dropped es i (leaf n b) h)
+      pub leaf_paired : (before : List Line) → (before ++ l ∷ []) ++ paired rest ls ≡ before ++ paired left ls
+      leaf_paired before =
+          append_assoc before (l ∷ []) (paired rest ls)
+          ∙ ap (λ r. before ++ r) (sym (ap (λ es. paired es ls) is ∙ ap (λ o. with_line o (paired rest ls)) e))
 
-  pub gate_refusal : (k : ℕ) (cs : List ℕ) → get_elem? es i ≡ some (node k cs) → pair_refusal (drop i es) ls ≡ pair_refusal (drop (i + 1) es) ls
-  gate_refusal k cs h = ap (λ r. pair_refusal r ls) (dropped es i (node k cs) h)
+  module _ (k : ℕ) (cs : List ℕ) (is : left ≡ node k cs ∷ rest) where
+    pub gate_refusal : pair_refusal left ls ≡ pair_refusal rest ls
+    gate_refusal = ap (λ es. pair_refusal es ls) is
 
-  pub gate_paired : (k : ℕ) (cs : List ℕ) → get_elem? es i ≡ some (node k cs) → paired (drop i es) ls ≡ paired (drop (i + 1) es) ls
-  gate_paired k cs h = ap (λ r. paired r ls) (dropped es i (node k cs) h)
+    pub gate_paired : paired left ls ≡ paired rest ls
+    gate_paired = ap (λ es. paired es ls) is
 
-  pub gate_counted : (k : ℕ) (cs : List ℕ) → get_elem? es i ≡ some (node k cs) → leaves (drop i es) ≡ leaves (drop (i + 1) es)
-  gate_counted k cs h = ap leaves (dropped es i (node k cs) h)
+    pub gate_counted : leaves left ≡ leaves rest
+    gate_counted = ap leaves is

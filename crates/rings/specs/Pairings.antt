@@ -2,15 +2,14 @@
 --   line_of ls n           the line with number n, if there is one
 --   pair_refusal es ls     the first leaf whose number stands in no line
 --   paired es ls           the lines of the leaves, in their order
-use Rattle.std.specs.Prelude.{ℕ, cond, List, [], ◌∷◌, Some, None, Option, ◌==◌}
+use Rattle.std.specs.Prelude.{ℕ, List, [], ◌∷◌, find, Some, None, Option, ◌==◌}
 use Rattle.refusals.specs.declared.Refusal.{Refusal}
 use Rattle.refusals.specs.declared.Refusal.TheVariants.{NotInRing}
 use Rattle.rules.specs.Tables.{Row, leaf, node}
 use Rattle.rings.specs.declared.line.Line.{Line}
 
 abbrev pub line_of : List Line → ℕ → Option Line
-line_of [] n = None
-line_of (l ∷ ls) n = cond (l.number == n) (Some l) (line_of ls n)
+line_of ls n = find (λ l. l.number == n) ls
 
 abbrev pub missing_at : Option Line → ℕ → Option Refusal → Option Refusal
 missing_at None b next = Some (NotInRing b)

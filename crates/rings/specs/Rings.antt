@@ -7,14 +7,15 @@
 --   line_refusal m last i l   why line i is refused: its number is not above `last`, or it has no image of its kind
 --   lines_refusal m last i ls  the first fault of the lines from line i on
 --   ring_refusal m s       why a ring is refused
---   lines_in               the lines that a list of lines holds
-use Rattle.std.specs.Prelude.{ℕ, zero, suc, ◌+◌, ◌*◌, ◌/◌, ◌%◌, Bool, ◌&&◌, List, [], ◌∷◌, length, take, None, Option, ◌==◌, nat_le, nat_lt, slice_index}
+--   lines_in               the lines that a row of lines holds
+use Rattle.std.specs.Prelude.{ℕ, zero, suc, ◌+◌, ◌*◌, ◌/◌, ◌%◌, Bool, ◌&&◌, List, [], ◌∷◌, length, None, Option, ◌==◌, nat_le, nat_lt, slice_index}
 use Rattle.refusals.specs.declared.Refusal.{Refusal}
 use Rattle.refusals.specs.declared.Refusal.TheVariants.{RingLength, NotRising, NoImage}
 use Rattle.refusals.specs.Checks.{unless, or_else, first}
 use Rattle.kinds.specs.Kinds.{KindModel}
 use Rattle.rings.specs.declared.line.Line.{Line}
-use Rattle.rings.specs.declared.line.Lines.{Lines}
+use Rattle.bounded.specs.Rows.{items}
+use Rattle.bounded.specs.declared.row.Row.{Row}
 
 abbrev pub word_at : List ℕ → ℕ → ℕ
 word_at s i = ((slice_index s i * 256 + slice_index s (i + 1)) * 256 + slice_index s (i + 2)) * 256 + slice_index s (i + 3)
@@ -46,5 +47,5 @@ lines_refusal m last i (l ∷ ls) = or_else (line_refusal m last i l) (lines_ref
 abbrev pub ring_refusal : KindModel → List ℕ → Option Refusal
 ring_refusal m s = or_else (unless (whole s) RingLength) (lines_refusal m 0 0 (ring_lines s))
 
-abbrev pub lines_in : Lines → List Line
-lines_in t = take t.len t.slots
+abbrev pub lines_in : Row Line 16 → List Line
+lines_in t = items t

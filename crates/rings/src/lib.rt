@@ -2,10 +2,9 @@
 #![tactic(auto)]
 
 mod line;
-mod lines;
 mod pairing;
 mod ring;
 
-pub use line::{Line, Lines};
+pub use line::{Line, Lines, find_line};
 pub use pairing::pair;
 pub use ring::read_ring;

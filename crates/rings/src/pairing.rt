@@ -5,7 +5,7 @@ ghost use Rattle.rules.specs.Texts.{rows_in};
 ghost use Rattle.rings.specs.Rings.{lines_in};
 ghost use Rattle.rings.specs.Pairings.{pair_refusal, paired};
 
-use crate::line::Lines;
+use crate::line::{Line, Lines, find_line};
 use refusals::Refusal;
 use rules::{Entry, Table};
 
@@ -14,15 +14,10 @@ pub fn pair(table: &Table, ring: &Lines) -> Result<Lines, Refusal>
     ensures refuses { told result ≡ pair_refusal (rows_in table.now) (lines_in ring.now) }
     ensures pairs { IfOk result (λ lines. lines_in lines ≡ paired (rows_in table.now) (lines_in ring.now)) }
 {
-    let mut lines = Lines::new();
-    for i in 0..table.len() {
-        let Some(entry) = table.entry(i) else {
-            return Ok(lines);
-        };
+    let mut lines = Lines::blank(Line::default());
+    for entry in table.entries() {
         if let Entry::Leaf { key, place } = entry {
-            let Some(line) = ring.find(key) else {
-                return Err(Refusal::NotInRing(place));
-            };
+            let line = find_line(ring, *key).ok_or(Refusal::NotInRing(*place))?;
             lines.push(line);
         }
     }

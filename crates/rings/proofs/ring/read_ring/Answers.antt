@@ -1,31 +1,30 @@
-use Rattle.std.proofs.Common.{◌≡◌, ◌+◌, ◌-◌, ◌*◌, ◌/◌, [], ◌∷◌, ◌++◌, length, Some, None, sym, ap, ◌∙◌, arith}
-use Rattle.rings.specs.Rings.{line_at, lines_from, lines_in, line_refusal, lines_refusal, ring_lines}
-use Rattle.rings.proofs.Reading.{passed, refused, gathered, is_whole}
+use Rattle.std.proofs.Common.{◌≡◌, [], ◌++◌, length, Some, sym, ap, ◌∙◌, slice_index_or, append-nil}
+use Rattle.std.proofs.lemmas.Bool.{eqb-false}
+use Rattle.std.proofs.lemmas.List.{drop_all}
+use Rattle.std.proofs.lemmas.Result.{err_from_is_err_and}
+use Rattle.rings.specs.Rings.{line_at, lines_in, line_refusal}
+use Rattle.rings.proofs.Reading.{lines_of, all_lines, all_passed, one_refused}
 use Rattle.rings.proofs.ring.read_ring.Goals as goal
 
-pub loop-i-preserved : goal.loop-i-preserved
-loop-i-preserved g c =
+pub returns-in_err-check_line-clause-refuses : goal.returns-in_err-check_line-clause-refuses
+returns-in_err-check_line-clause-refuses g c =
     let m = g.S.LeafKinds.meaning c.args.set.now in
-    let s = c.args.bytes.now in
-    let count = length s / 18 in
+    let chunks = c.as_chunks.result.0.now in
     let i = c.loop-i.i in
-    let inv = c.loop-i.invariant in
-    let is = c.line_at-line.ensures in
-    let quiet : line_refusal m c.loop-i.last i (line_at s (18 * i)) ≡ None = ap (line_refusal m c.loop-i.last i) (sym is) ∙ sym c.in_default.ensures in (
-      omega (arith, c.push.ensures.longer, inv.0),
-      passed m s count i c.loop-i.last c.loop-i-test.true (lines_refusal m 0 0 (ring_lines s)) inv.1 quiet
-          ∙ ap (λ l. lines_refusal m l.number (i + 1) (lines_from s (18 * (i + 1)) (count - (i + 1)))) (sym is),
-      ap (λ ls. ls ++ lines_from s (18 * (i + 1)) (count - (i + 1))) (c.push.ensures.holds ∙ ap (λ l. lines_in c.loop-i.lines ++ l ∷ []) is)
-          ∙ gathered m s count i c.loop-i.last c.loop-i-test.true (lines_in c.loop-i.lines) (ring_lines s) inv.2,
-    )
+    let last = c.loop-i.last in
+    let some = eqb-false (length chunks) 0 (sym c.is_empty.ensures ∙ c.if-is_empty.false) in
+    let p = err_from_is_err_and c.from_residual.result c.from_residual.ensures.1 in
+    let here : Some c.in_err-check_line.field-0.0 ≡ line_refusal m last i (line_at (slice_index_or chunks i []) 0) = c.in_err-check_line.ensures ∙ ap (line_refusal m last i) c.from-line.ensures in
+    rw (p.1, p.2) (one_refused c.args.bytes.now chunks c.as_chunks.ensures.front m (length c.as_chunks.result.1.now) c.as_chunks.ensures.front_len c.as_chunks.ensures.back_len c.in_default-empty.len_below some c.if-chunks-gt-MOST_LINES.false last i c.loop-i.invariant.1 c.loop-i-test.true c.in_err-check_line.field-0.0 here)
 
-pub returns-in-Err : goal.returns-in-Err
-returns-in-Err g c =
+pub returns-clause-refuses : goal.returns-clause-refuses
+returns-clause-refuses g c =
     let m = g.S.LeafKinds.meaning c.args.set.now in
-    let s = c.args.bytes.now in
-    let count = length s / 18 in
-    let i = c.loop-i.i in
-    let found : line_refusal m c.loop-i.last i (line_at s (18 * i)) ≡ Some c.in-Err.why =
-    ap (line_refusal m c.loop-i.last i) (sym c.line_at-line.ensures) ∙ sym c.in-Err.ensures in
-    let none = refused m s count i c.loop-i.last c.loop-i-test.true (lines_refusal m 0 0 (ring_lines s)) c.in-Err.why c.loop-i.invariant.1 found in
-    record { refuses = sym (is_whole m s (omega arith) (omega arith) (omega arith) ∙ none); reads = tt }
+    let chunks = c.as_chunks.result.0.now in
+    let some = eqb-false (length chunks) 0 (sym c.is_empty.ensures ∙ c.if-is_empty.false) in
+    all_passed c.args.bytes.now chunks c.as_chunks.ensures.front m (length c.as_chunks.result.1.now) c.as_chunks.ensures.front_len c.as_chunks.ensures.back_len c.in_default-empty.len_below some c.if-chunks-gt-MOST_LINES.false c.loop-i.last c.loop-i.i c.loop-i.invariant.1 c.loop-i-test.false
+
+pub returns-clause-reads : goal.returns-clause-reads
+returns-clause-reads g c =
+    let chunks = c.as_chunks.result.0.now in
+    sym (append-nil (lines_in c.loop-i.lines)) ∙ ap (λ cs. lines_in c.loop-i.lines ++ lines_of cs) (sym (drop_all c.loop-i.i chunks c.loop-i-test.false)) ∙ c.loop-i.invariant.2 ∙ all_lines c.args.bytes.now chunks c.as_chunks.ensures.front
