@@ -1,5 +1,7 @@
 -- What a list of nodes holds, and going through the rows of a table with the lines of its leaves.
-use Rattle.std.proofs.Common.{◌≡◌, ℕ, zero, suc, ◌+◌, ◌<◌, ◌≤◌, List, [], ◌∷◌, length, get_or, take, drop, Some, None, Option, sym, refl, ap, ◌∙◌, ap₂, arith, MatchOption}
+use Rattle.std.proofs.Common.{◌≡◌, ℕ, zero, suc, ◌+◌, ◌<◌, ◌≤◌, List, [], ◌∷◌, length, get_or, take, drop, Some, None, Option, sym, refl, ap, ◌∙◌, ap₂, arith, MatchOption, option_copied, Bor}
+use Rattle.std.specs.Slice.{IsItemAt}
+use Rattle.rules.proofs.Lists.{found}
 use mathlib.Core.Option.{some}
 use lib.ListN.{get_elem?}
 use Rattle.std.proofs.lemmas.List.{length-map, length-take-le, get_or-map, get_or-take}
@@ -48,6 +50,11 @@ module _ (rows : List Row) (lines : List Line) (i j : ℕ) where
       ap₂ entries (dropped rows i (key_row n b) h) (none_left lines j past)
       ∙ ap (λ ls. leaf_of None ∷ entries (drop (i + 1) rows) ls) (sym (none_left lines (j + 1) (omega arith)))
   leaf_step n b h (Some l) at = ap₂ entries (dropped rows i (key_row n b) h) (dropped lines j l at)
+
+-- the line at a place, copied
+pub line_at_place : (xs ls : List Line) (i : ℕ) (r : Option (Bor Line)) (o : Option Line) → IsItemAt xs i r → xs ≡ ls → o ≡ option_copied r → MatchOption o (length ls ≤ i) (λ l. get_elem? ls i ≡ some l)
+line_at_place xs ls i None o h e f = rw f (omega (arith, h.3, ap length e))
+line_at_place xs ls i (Some b) o h e f = rw f (ap (λ zs. get_elem? zs i) (sym e) ∙ found xs i b.now h.3.0 ∙ ap some (sym h.1))
 
 pub leaves_kept : (rows : List Row) (lines : List Line) → leaves (entries rows lines) ≡ keys rows
 leaves_kept [] lines = refl

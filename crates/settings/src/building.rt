@@ -43,7 +43,7 @@ fn list_nodes(table: &Table, lines: &Lines) -> Nodes
         };
         match entry {
             Entry::Leaf { .. } => {
-                nodes.push(leaf_node(lines.get(leaf)));
+                nodes.push(leaf_node(lines.get(leaf).copied()));
                 leaf += 1;
             }
             Entry::Gate {

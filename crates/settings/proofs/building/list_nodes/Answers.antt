@@ -8,7 +8,7 @@ use Rattle.rings.specs.Rings.{lines_in}
 use Rattle.releases.specs.Entries.{gate, entries}
 use Rattle.settings.specs.Nodes.{listing}
 use Rattle.settings.specs.Buildings.{leaf_of}
-use Rattle.settings.proofs.Listing.{none_left, gate_step, leaf_step, gate_entry}
+use Rattle.settings.proofs.Listing.{none_left, gate_step, leaf_step, gate_entry, line_at_place}
 use Rattle.settings.proofs.building.list_nodes.Goals as goal
 use Rattle.settings.proofs.building.list_nodes.Goals.{in-Leaf, in-Gate}
 
@@ -23,13 +23,13 @@ loop-i-preserved c =
     elim c.match-entry-2.branch [
       | in-Leaf w ↦
           let at : get_elem? rows i ≡ some (key_row w.in-Leaf.key w.in-Leaf.place) = c.in-Some.ensures ∙ ap (λ e. some (row_of e)) w.in-Leaf.is in
-          let step = leaf_step rows lines i j w.in-Leaf.key w.in-Leaf.place at w.get.result w.get.ensures in
+          let step = leaf_step rows lines i j w.in-Leaf.key w.in-Leaf.place at w.copied.result (line_at_place w.deref.result.now lines j w.get.result w.copied.result w.get.ensures.lookup w.deref.ensures w.copied.ensures) in
           let rest = entries (drop (i + 1) rows) (drop (j + 1) lines) in
           let same = ap (λ ns. ns.len) w.nodes-is in (
             ap (λ ns. listing ns ++ entries (drop (i + 1) rows) (drop c.match-entry-2.leaf lines)) w.nodes-is
                 ∙ ap (λ n. listing w.push.new.self ++ entries (drop (i + 1) rows) (drop n lines)) w.leaf-is
                 ∙ ap (λ es. es ++ rest) (w.push.ensures.holds ∙ ap (λ e. listing c.loop-i.nodes ++ e ∷ []) w.leaf_node.ensures)
-                ∙ append_assoc (listing c.loop-i.nodes) (leaf_of w.get.result ∷ []) rest
+                ∙ append_assoc (listing c.loop-i.nodes) (leaf_of w.copied.result ∷ []) rest
                 ∙ ap (λ es. listing c.loop-i.nodes ++ es) (sym step) ∙ inv.0,
             omega (arith, same, w.push.ensures.longer, inv.1),
             omega (arith, w.leaf-is, inv.2),
