@@ -44,8 +44,5 @@ pub extern "C" fn lemonbilge_rule_read(text: &[u8]) -> u32
     ensures read { (es : List Row) → Means text.now es → result ≡ length es }
     ensures refused { ((es : List Row) → Means text.now es → ⊥) → result ≡ 0 }
 {
-    match read(text) {
-        Ok(table) => table.len() as u32,
-        Err(_) => 0,
-    }
+    read(text).map_or(0, |table| table.len() as u32)
 }
