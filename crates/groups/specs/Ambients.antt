@@ -24,7 +24,7 @@ pub record AmbientModel (E : Type 0) : Type 0 where
   pub element : ℕ → ℕ → E → Bool
   pub is_one : E → Bool
   pub words : E → ℕ × ℕ
-  -- what two words are written for
+  -- the value that is written as two words, if there is one
   pub read : ℕ × ℕ → Option E
 
 pub record AmbientLaws {E : Type 0} (a : AmbientModel E) : Type 0 where

@@ -47,6 +47,3 @@ module _ {E : Type 0} {a : AmbientModel E} (cut : AmbientLaws a) where
           reads_words = λ x hx. ap (passing (a.element q p)) (cut.reads_words x) ∙ picks (a.element q p x) _ _ hx;
           reads_in = λ w x e. let found = passed (a.element q p) (a.read w) x e in (found.1, cut.reads_in w x found.0);
         }
-
-    pub group_inside : (x : E) → T (a.element q p x) → T ((a.product p).member x)
-    group_inside = (cut.turns q p some wide).inside
