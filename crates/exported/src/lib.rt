@@ -9,6 +9,7 @@ ghost use Rattle.exported.specs.Powers.{residue_power, circle_power};
 use groups::{Circle, Residue, Residues, power};
 use rules::read;
 
+// kept: the two powers as two texts: each is a C function, and they differ in their numbers, their test and their result
 // y to the power of the exponent modulo p; 0 where y is not below p, or p is below 2.
 #[unsafe(no_mangle)]
 pub extern "C" fn lemonbilge_power_residue(p: u32, y: u32, exponent: u32) -> u32

@@ -1,7 +1,7 @@
 // A number that counts modulo p: an element of the residue group, or half of one of the circle group.
 ghost use Rattle.std.specs.Prelude.{◌≡◌};
 
-// A newtype like the fields' `Scalar`, and on purpose another one: no call takes a residue for a scalar.
+// kept: a newtype of the shape of the fields' `Scalar`, made and read by the same two calls: as one type, a residue would pass for a scalar
 #[derive(Clone, Copy, Debug, PartialEq, Eq)]
 pub struct Residue(u32);
 
