@@ -1,6 +1,5 @@
 -- What follows where no check tells anything, and where a test picks a value.
-use Rattle.std.specs.Prelude.{◌≡◌, ℕ, Bool, true, false, cond, not, T, is_some, Some, None, Option, refl}
-use Rattle.std.proofs.Common.{arith}
+use Rattle.std.specs.Prelude.{◌≡◌, Bool, true, false, cond, not, T, is_some, Some, None, Option, refl}
 use Rattle.refusals.specs.declared.Refusal.{Refusal}
 use Rattle.refusals.specs.Checks.{unless, or_else}
 
@@ -23,7 +22,3 @@ passes b why next t = let parts = quiet_both (unless b why) next t in (quiet_tes
 pub picks : {X : Type 0} (b : Bool) (x y : X) → T b → cond b x y ≡ x
 picks true x y t = refl
 picks false x y t = absurd t
-
-pub picked : {X : Type 0} (b : Bool) (a x : X) → cond b (Some a) None ≡ Some x → T b × (a ≡ x)
-picked true a x e = (tt, cc)
-picked false a x e = let z : ◌≡◌ {A = ℕ} 0 1 = cc in absurd (let w = z in omega arith)

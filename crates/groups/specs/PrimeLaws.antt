@@ -1,6 +1,7 @@
 -- What holds of every group of prime order, from what holds of the product that it is cut from.
 use Rattle.std.specs.Prelude.{◌≡◌, ℕ, ◌<◌, Bool, not, T, Some, None, Option}
-use Rattle.std.proofs.Common.{ap, subst, ◌∙◌, arith}
+use Rattle.std.proofs.Common.{sym, ap, subst, ◌∙◌, arith}
+use Rattle.std.proofs.lemmas.Option.{cond_some}
 use Rattle.std.specs.Float.Ieee.Fits.{and_l}
 use Rattle.refusals.specs.declared.Refusal.TheVariants.{NoSuchGroup, UnfitBase}
 use Rattle.refusals.specs.declared.Base.TheVariants.{First, Second}
@@ -8,14 +9,14 @@ use Rattle.groups.specs.Monoids.{MonoidLaws}
 use Rattle.groups.specs.Groups.{GroupLaws}
 use Rattle.groups.specs.Listed.{number_refusal}
 use Rattle.groups.specs.Listing.{Numbers, numbers}
-use Rattle.groups.specs.Passing.{Quiet, passes, quiet_both, picks, picked}
+use Rattle.groups.specs.Passing.{Quiet, passes, quiet_both, picks}
 use Rattle.groups.specs.Torsion.{torsion_laws, torsion_ordered}
 use Rattle.groups.specs.Ambients.{AmbientModel, AmbientLaws, base, passing, group_elements, group_model, group_refusal}
 
 -- what passes a test is what was read, and meets it
 passed : {E : Type 0} (test : E → Bool) (o : Option E) (x : E) → passing test o ≡ Some x → (o ≡ Some x) × T (test x)
 passed test None x e = absurd (let z : ◌≡◌ {A = ℕ} 0 1 = cc in let w = z in omega arith)
-passed test (Some y) x e = let found = picked (test y) y x e in (ap Some found.1, subst (λ u. T (test u)) found.1 found.0)
+passed test (Some y) x e = let found = cond_some (test y) y x e in (ap Some found.1, subst T (sym (ap test (sym found.1) ∙ found.0)) tt)
 
 module _ {E : Type 0} {a : AmbientModel E} (cut : AmbientLaws a) where
   module _ (q p : ℕ) (g h : E) (t : Quiet (group_refusal a q p g h)) where

@@ -1,7 +1,8 @@
 -- The residues modulo p, and those whose q-th power is 1.
 use Rattle.std.specs.Prelude.{◌≡◌, ℕ, zero, suc, ◌*◌, ◌%◌, ◌^◌, ◌<◌, ◌&&◌, T, ◌==◌, nat_lt, refl}
-use Rattle.std.proofs.Common.{sym, ap, subst, ◌∙◌, mul_assoc, mul_comm, one-mul, mul-zero, mod-lt, mod-eq_of_lt, pow-suc, not-suc-le-zero, arith, ltb→lt, lt→ltb, eqb→eq}
+use Rattle.std.proofs.Common.{sym, ap, subst, ◌∙◌, mul_assoc, mul_comm, one-mul, mul-zero, mod-lt, mod-eq_of_lt, pow-suc, not-suc-le-zero, arith, ltb→lt, lt→ltb, eqb→eq, eqb-true}
 use Rattle.std.proofs.Math.Nat.{pow-zero, pow-succ'}
+use Rattle.std.proofs.lemmas.Option.{cond_some}
 use Rattle.std.specs.Float.Ieee.Fits.{and_i, and_l, and_r}
 use Rattle.fields.specs.Residual.{mod_mul_mod, mul_mod_mod}
 use Rattle.groups.specs.Monoids.{MonoidLaws, power}
@@ -11,7 +12,7 @@ use Rattle.groups.specs.PrimeLaws.{group_monoid, group_laws}
 use Rattle.groups.specs.Residues.{residue, residues_modulo, residue_element, residue_elements, residue_model, residue_refusal, residues}
 use Rattle.groups.specs.declared.residue.Residue.{Residue}
 use Rattle.groups.specs.Torsion.{Torsion}
-use Rattle.groups.specs.Passing.{Quiet, picked}
+use Rattle.groups.specs.Passing.{Quiet}
 
 pub residues_laws : (p : ℕ) → 1 < p → MonoidLaws (residues_modulo p)
 residues_laws p wide = record {
@@ -62,8 +63,8 @@ residues_cut = record {
   only = λ _ x h. ap residue (eqb→eq x.0 1 h);
   reads_words = λ _. refl;
   reads_in = λ w x e.
-      let found = picked (w.1 == 0) (residue w.0) x e in
-      ap (λ (r : Residue). (r.0, 0)) (sym found.1) ∙ ap (λ n. (w.0, n)) (sym (eqb→eq w.1 0 found.0));
+      let found = cond_some (w.1 == 0) (residue w.0) x e in
+      ap (λ (r : Residue). (r.0, 0)) (sym found.1) ∙ ap (λ n. (w.0, n)) (sym (eqb-true w.1 0 found.0));
 }
 
 module _ (q p : ℕ) (g h : Residue) (t : Quiet (residue_refusal q p g h)) where
