@@ -20,7 +20,7 @@ pub trait LeafKinds: Monoid<Index = u8, Element = Image> {
         ensures { result ≡ (meaning self.now).count };
 
     // How many scalars a key of this kind has: 1 or 2, and 0 at a number that no kind has.
-    // kept: a count that is added up and printed, not a code
+    // kept: a count that is added up and printed; an Option would be read as 0 at each use
     fn width(&self, kind: u8) -> u8
         ensures { result ≡ ((meaning self.now).kind kind).width };
 
