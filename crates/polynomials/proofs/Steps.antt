@@ -1,13 +1,30 @@
 -- What one turn of each loop over nodes and coefficients does.
 --   Begun m points given values i   the first i values are coefficients by now, with which the form on the first i points passes through what was given there
-use Rattle.std.proofs.Common.{◌≡◌, ℕ, zero, suc, ◌+◌, ◌<◌, ◌≤◌, T, ◌≢◌, List, [], ◌∷◌, ◌++◌, length, get_or, take, drop, set, sym, refl, ap, ◌∙◌, subst, ap₂, not-suc-le-zero, arith, length-drop, length-set, take_all, get_or-set_other, get_or-set_same}
+use Rattle.std.proofs.Common.{◌≡◌, ℕ, zero, suc, ◌+◌, ◌<◌, ◌≤◌, T, ◌≢◌, List, [], ◌∷◌, ◌++◌, length, get_or, take, drop, set, sym, refl, ap, ◌∙◌, subst, ap₂, append_assoc, length-append, suc-le-suc, zero-le, not-suc-le-zero, arith, length-drop, length-set, take_all, get_or-set_other, get_or-set_same}
 use native.Mathlib.Decide.{dec_lt}
-use Rattle.std.proofs.lemmas.List.{get_or_read, get_or-take, get_or-drop, drop_more, drop_all, take_more, take_more_set, length-take-le}
+use Rattle.std.proofs.lemmas.List.{get_or-append-add, get_or_read, get_or-take, get_or-drop, drop_more, drop_all, take_more, take_more_set, length-take-le}
 use Rattle.fields.specs.Fields.{FieldModel, FieldLaws, minus}
 use Rattle.polynomials.specs.Polynomials.{Members, Apart, Passes, Polynomial, newton, weight}
-use Rattle.polynomials.proofs.Carried.{newton_in, newton_one, newton_push_new, newton_push_old, newton_polynomial, agree_everywhere}
+use Rattle.polynomials.proofs.Carried.{newton_one, newton_push_new, newton_push_old, newton_polynomial, agree_everywhere}
+
+-- a list is what a loop has left of it before what it has taken from its end: one entry more is taken
+pub taken_back : {A : Type 0} (xs rest left done : List A) (x : A) → xs ≡ rest ++ done → rest ≡ left ++ (x ∷ []) → xs ≡ left ++ (x ∷ done)
+taken_back xs rest left done x e p = e ∙ ap (λ u. u ++ done) p ∙ append_assoc left (x ∷ []) done
+
+pub all_taken : {A : Type 0} (xs rest done : List A) → xs ≡ rest ++ done → length rest ≡ 0 → done ≡ xs
+all_taken xs [] done e z = sym e
+all_taken xs (x ∷ rest) done e z = absurd (omega arith)
 
 module _ {E : Type 0} (m : FieldModel E) where
+  -- what was taken from the end of a list of elements is elements
+  pub members_back : (xs rest done : List E) → xs ≡ rest ++ done → Members m xs → Members m done
+  members_back xs rest done e h i k =
+      subst (λ y. T (m.member y)) (ap (λ u. get_or u (length rest + i) m.zero) e ∙ get_or-append-add rest done i m.zero)
+      (h (length rest + i) (omega (arith, ap length e, length-append rest done)))
+
+  pub taken_in : (xs left done : List E) (x : E) → xs ≡ left ++ (x ∷ done) → Members m xs → T (m.member x)
+  taken_in xs left done x e h = members_back xs left (x ∷ done) e h 0 (suc-le-suc zero-le)
+
   -- a result is an element where what it equals is one
   pub same_in : (r x : E) → r ≡ x → T (m.member x) → T (m.member r)
   same_in r x e h = subst (λ y. T (m.member y)) (sym e) h
@@ -37,23 +54,6 @@ module _ {E : Type 0} (m : FieldModel E) where
           let e : i ≡ j = omega arith in
           subst (λ k. T (m.member (get_or (set xs i x) k m.zero))) e (subst (λ y. T (m.member y)) (sym (get_or-set_same xs i x m.zero l)) k)
 
-  pub newton_drop : (ns cs : List E) (x : E) (j i : ℕ) → j + 1 ≡ i → j < length ns → j < length cs → (n c : E) → n ≡ get_or ns j n → c ≡ get_or cs j c
-      → newton m (drop j ns) (drop j cs) x ≡ m.plus c (m.times (minus m x n) (newton m (drop i ns) (drop i cs) x))
-  newton_drop ns cs x j i e l k n c en ec =
-      ap₂ (λ u v. newton m u v x) (drop_more ns j n l) (drop_more cs j c k)
-      ∙ ap₂ (λ u v. m.plus u (m.times (minus m x v) (newton m (drop (j + 1) ns) (drop (j + 1) cs) x))) (sym ec) (sym en)
-      ∙ ap (λ u. m.plus c (m.times (minus m x n) (newton m (drop u ns) (drop u cs) x))) e
-
-  pub weight_drop : (ns : List E) (x : E) (j i : ℕ) → j + 1 ≡ i → j < length ns → (n : E) → n ≡ get_or ns j n
-      → weight m (drop j ns) x ≡ m.times (minus m x n) (weight m (drop i ns) x)
-  weight_drop ns x j i e l n en =
-      ap (λ u. weight m u x) (drop_more ns j n l)
-      ∙ ap (λ v. m.times (minus m x v) (weight m (drop (j + 1) ns) x)) (sym en)
-      ∙ ap (λ u. m.times (minus m x n) (weight m (drop u ns) x)) e
-
-  pub weight_none : (ns : List E) (x : E) → weight m (drop (length ns) ns) x ≡ m.one
-  weight_none ns x = ap (λ u. weight m u x) (drop_all (length ns) ns (omega arith))
-
   abbrev pub Begun : List E → List E → List E → ℕ → Type 0
   Begun points given values i =
       Members m values
@@ -66,11 +66,6 @@ module _ {E : Type 0} {m : FieldModel E} (laws : FieldLaws m) where
 
   pub product_in : (r x y : E) → r ≡ m.times x y → T (m.member x) → T (m.member y) → T (m.member r)
   product_in r x y e h k = same_in m r (m.times x y) e (laws.times_in x y h k)
-
-  -- the rest of a form, from its i-th node on
-  pub rest_in : (r : E) (ns cs : List E) (x : E) (i : ℕ) → r ≡ newton m (drop i ns) (drop i cs) x → Members m ns → Members m cs → T (m.member x) → T (m.member r)
-  rest_in r ns cs x i e h k x-in =
-      same_in m r (newton m (drop i ns) (drop i cs) x) e (newton_in laws (drop i ns) (drop i cs) (members_drop m ns i h) (members_drop m cs i k) x x-in)
 
   pub newton_last : (ns cs : List E) (x : E) (j : ℕ) → length ns ≡ length cs → j + 1 ≡ length ns → Members m ns → Members m cs → T (m.member x)
       → (c : E) → c ≡ get_or cs j c → c ≡ newton m (drop j ns) (drop j cs) x

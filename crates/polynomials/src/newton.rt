@@ -19,11 +19,13 @@ pub fn value<F: Field>(
 {
     let last = nodes.len() - 1;
     let mut sum = coefficients[last];
-    for i in (0..last).rev() {
-        sum = field.sum(
-            coefficients[i],
-            field.product(field.difference(x, nodes[i]), sum),
-        );
+    let pairs = nodes[..last]
+        .iter()
+        .rev()
+        .zip(coefficients[..last].iter().rev());
+    for (node, coefficient) in pairs {
+        let product = field.product(field.difference(x, *node), sum);
+        sum = field.sum(*coefficient, product);
     }
     sum
 }
@@ -34,8 +36,8 @@ fn weight<F: Field>(field: &F, nodes: &[F::Element], x: F::Element) -> F::Elemen
     ensures { result ≡ factors (F.Field.model field.now) nodes.now x }
 {
     let mut product = field.one();
-    for i in (0..nodes.len()).rev() {
-        product = field.product(field.difference(x, nodes[i]), product);
+    for node in nodes.iter().rev() {
+        product = field.product(field.difference(x, *node), product);
     }
     product
 }
@@ -69,6 +71,7 @@ pub fn interpolate<F: Field>(field: &F, points: &[F::Element], values: &mut [F::
     ensures passes { let m = F.Field.model field.now in Passes m (form m points.now values.new) points.now values.old }
     ensures only { let m = F.Field.model field.now in ((f : F.Element → F.Element) → Polynomial m (length points.now) f → Passes m f points.now values.old → (x : F.Element) → T (m.member x) → f x ≡ form m points.now values.new x) }
 {
+    // kept: i is also the length of the parts from which the next coefficient is found, and `values` is written to
     for i in 1..points.len() {
         let y = values[i];
         let next = coefficient(field, &points[..i], &values[..i], points[i], y);

@@ -1,12 +1,8 @@
-use Rattle.std.proofs.Common.{sym, ap, ◌∙◌}
-use Rattle.fields.specs.Fields.{minus}
+use Rattle.std.proofs.Common.{sym, ◌∙◌}
 use Rattle.polynomials.specs.Polynomials.{newton, weight}
 use Rattle.polynomials.proofs.Carried.{newton_in, weight_in, weight_apart}
 use Rattle.polynomials.proofs.Steps.{same_in, difference_in}
 use Rattle.polynomials.proofs.newton.coefficient.Goals as goal
-
-pub value-before-requires : goal.value-before-requires
-value-before-requires g c = let h = c.requires.elements in record { sizes = c.requires.sizes; elements = (h.0, (h.1.0, h.1.1.0)) }
 
 pub difference-requires : goal.difference-requires
 difference-requires g c =
@@ -17,9 +13,6 @@ difference-requires g c =
     let x = c.args.x in
     let h = c.requires.elements in
     (h.1.1.1, same_in m c.value-before.result (newton m ns cs x) c.value-before.ensures.value (newton_in laws ns cs h.0 h.1.0 x h.1.1.0))
-
-pub weight-requires : goal.weight-requires
-weight-requires g c = let h = c.requires.elements in (h.0, h.1.1.0)
 
 pub quotient-requires : goal.quotient-requires
 quotient-requires g c =
@@ -36,11 +29,3 @@ quotient-requires g c =
         λ e. weight_apart laws ns h.0 x h.1.1.0 c.requires.away (sym c.weight.ensures ∙ e),
       ),
     )
-
-pub returns : goal.returns
-returns g c =
-    let m = g.F.Field.model c.args.field.now in
-    record {
-      member = c.quotient.ensures.member;
-      fits = ap (m.times c.quotient.result) (sym c.weight.ensures) ∙ c.quotient.ensures.divides ∙ c.difference.ensures ∙ ap (minus m c.args.y) c.value-before.ensures.value;
-    }

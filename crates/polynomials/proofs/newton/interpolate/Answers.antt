@@ -1,4 +1,4 @@
-use Rattle.std.proofs.Common.{◌≡◌, ◌<◌, ◌≤◌, length, get_or, take, sym, ap, ◌∙◌, ap₂, arith}
+use Rattle.std.proofs.Common.{◌≡◌, ◌<◌, length, get_or, take, sym, ap, ◌∙◌, ap₂, arith}
 use Rattle.std.proofs.lemmas.List.{get_or_read, get_or-take, length-take-le}
 use Rattle.fields.specs.Fields.{minus}
 use Rattle.polynomials.specs.Polynomials.{newton, weight}
@@ -10,34 +10,31 @@ pub loop-i-init : goal.loop-i-init
 loop-i-init g c =
     begun_first (g.met.F.Field.lawful c.args.field.now) c.args.points.now c.args.values.now c.requires.sizes c.requires.elements.0 c.requires.elements.1
 
-pub coefficient-next-requires : goal.coefficient-next-requires
-coefficient-next-requires g c =
+pub coefficient-next-requires-clause-elements : goal.coefficient-next-requires-clause-elements
+coefficient-next-requires-clause-elements g c =
     let m = g.F.Field.model c.args.field.now in
     let points = c.args.points.now in
     let values = c.loop-i.values in
-    let i = c.loop-i.i in
-    let x = c.index-points-i.result in
-    let short : i ≤ length points = omega arith in
-    let short' : i ≤ length values = omega (arith, c.requires.sizes) in
-    let long : length (take i points) ≡ i = length-take-le i points short in
-    record {
-      sizes = (long ∙ sym (length-take-le i values short'), omega arith);
-      elements = (
-        members_take m points i short c.requires.elements.0,
+    let i = c.loop-i.i in (
+      members_take m points i (omega arith) c.requires.elements.0,
+      (
+        members_take m values i (omega (arith, c.requires.sizes)) c.loop-i.invariant.0,
         (
-          members_take m values i short' c.loop-i.invariant.0,
-          (
-            read_in m points c.requires.elements.0 i x (omega arith) c.index-points-i.is,
-            read_in m values c.loop-i.invariant.0 i c.index-values-i.result (omega (arith, c.requires.sizes)) c.index-values-i.is,
-          ),
+          read_in m points c.requires.elements.0 i c.index-points-i.result (omega arith) c.index-points-i.is,
+          read_in m values c.loop-i.invariant.0 i c.index-values-i.result (omega (arith, c.requires.sizes)) c.index-values-i.is,
         ),
-      );
-      away = λ j b e.
-          let within : j < i = omega arith in
-          let same : i ≡ j = c.requires.apart i j (omega arith) (omega arith)
-          (sym (get_or_read points i x (omega arith) c.index-points-i.is m.zero) ∙ e ∙ get_or-take i points j m.zero within) in
-          omega arith;
-    }
+      ),
+    )
+
+pub coefficient-next-requires-clause-away : goal.coefficient-next-requires-clause-away
+coefficient-next-requires-clause-away g c j b e =
+    let m = g.F.Field.model c.args.field.now in
+    let points = c.args.points.now in
+    let i = c.loop-i.i in
+    let within : j < i = omega (arith, length-take-le i points (omega arith)) in
+    let same : i ≡ j = c.requires.apart i j (omega arith) (omega arith)
+    (sym (get_or_read points i c.index-points-i.result (omega arith) c.index-points-i.is m.zero) ∙ e ∙ get_or-take i points j m.zero within) in
+    omega arith
 
 pub loop-i-preserved : goal.loop-i-preserved
 loop-i-preserved g c =
@@ -54,17 +51,15 @@ loop-i-preserved g c =
     ∙ ap₂ (λ x y. minus m y (newton m (take i points) (take i values) x)) x-is y-is)
     c.loop-i.invariant
 
-pub returns : goal.returns
-returns g c =
+pub returns-clause-polynomial : goal.returns-clause-polynomial
+returns-clause-polynomial g c =
+    newton_polynomial (g.met.F.Field.lawful c.args.field.now) c.args.points.now c.loop-i.values c.requires.elements.0 c.loop-i.invariant.0 (omega (arith, c.requires.sizes))
+
+pub returns-clause-only : goal.returns-clause-only
+returns-clause-only g c =
     let laws = g.met.F.Field.lawful c.args.field.now in
     let points = c.args.points.now in
     let given = c.args.values.now in
     let values = c.loop-i.values in
     let long : length points ≡ length values = omega (arith, c.requires.sizes) in
-    let passes = begun_all laws points given values c.loop-i.i long c.loop-i-test.false c.loop-i.invariant in
-    record {
-      elements = c.loop-i.invariant.0;
-      polynomial = newton_polynomial laws points values c.requires.elements.0 c.loop-i.invariant.0 long;
-      passes = passes;
-      only = only_one laws points given values long c.requires.elements.0 c.loop-i.invariant.0 c.requires.apart passes;
-    }
+    only_one laws points given values long c.requires.elements.0 c.loop-i.invariant.0 c.requires.apart (begun_all laws points given values c.loop-i.i long c.loop-i-test.false c.loop-i.invariant)

@@ -24,11 +24,6 @@ loop-newer-init c =
       ap (λ x. x % q) (mul_comm a d),
     )
 
-pub euclid_step-next-requires : goal.euclid_step-next-requires
-euclid_step-next-requires c =
-    let inv = c.loop-newer.invariant in
-    (omega (arith, c.loop-newer-test.true, c.value.ensures), (inv.0, inv.1))
-
 pub loop-newer-preserved : goal.loop-newer-preserved
 loop-newer-preserved c =
     let s = c.args.self.now in
