@@ -1,6 +1,6 @@
 -- Two balanced gates with different challenges of their own differ at as many children as they want, at least.
 --   shared d j    the points of the places where two lists have the same entry, the first at point j
-use Rattle.std.proofs.Common.{◌≡◌, ℕ, zero, suc, ◌+◌, ◌-◌, ◌<◌, ◌≤◌, Bool, true, false, not, cond, T, List, [], ◌∷◌, length, get_or, sym, refl, ap, ◌∙◌, subst, ap₂, suc-le-suc, zero-le, zero-add, arith}
+use Rattle.std.proofs.Common.{◌≡◌, ℕ, zero, suc, ◌+◌, ◌-◌, ◌<◌, ◌≤◌, Bool, true, false, not, cond, T, List, [], ◌∷◌, length, get_or, sym, refl, ap, ◌∙◌, subst, suc-le-suc, zero-le, zero-add, arith}
 use Rattle.std.specs.Prelude.{Decides, filter}
 use Rattle.std.specs.List.{zip}
 use native.Mathlib.Nat.{suc_inj}
@@ -13,21 +13,16 @@ use Rattle.splits.specs.Gates.{Balanced, Differing}
 use Rattle.splits.specs.Gates.{none, same, other}
 use Rattle.splits.proofs.Picked.{all_at, apart_from, members_from}
 
+-- what a test decides, it decides of what is so exactly where that is
+pub told : (r : Bool) {Q : Type 0} (P : Type 0) → Decides r Q → (Q → P) → (P → Q) → (T r → P) × (P → T r)
+told true P h to from = ((λ _. to (h.0 refl)), (λ _. tt))
+told false P h to from = ((λ t. absurd t), (λ p. let z : false ≡ true = h.1 (from p) in cc))
+
 module _ {E : Type 0} where
   pub differing_long : {xs ys : List E} {r : ℕ} → Differing xs ys r → length xs ≡ length ys
   differing_long none = refl
   differing_long (same e d) = ap suc (differing_long d)
   differing_long (other n d) = ap suc (differing_long d)
-
-  pub differing_none : {xs ys : List E} {r : ℕ} → Differing xs ys r → r ≡ 0 → xs ≡ ys
-  differing_none none z = refl
-  differing_none (same e d) z = ap₂ ◌∷◌ e (differing_none d z)
-  differing_none (other n d) z = absurd (omega arith)
-
-  pub differing_self : {xs ys : List E} {r : ℕ} → Differing xs ys r → xs ≡ ys → r ≡ 0
-  differing_self none e = refl
-  differing_self (same p d) e = differing_self d (cc)
-  differing_self (other n d) e = absurd (n (cc))
 
   -- by what an exact test tells apart
   differing_more : (x y : E) (xs ys : List E) (p : E × E → Bool) (b : Bool) → Decides b (x ≡ y)

@@ -1,3 +1,4 @@
+pub mod Sizes
 pub mod Picked
 pub mod Splitting
 pub mod Forks

@@ -1,8 +1,11 @@
 -- Marked entries of a list, and the points of the children.
-use Rattle.std.proofs.Common.{◌≡◌, ℕ, zero, suc, ◌+◌, ◌<◌, ◌≤◌, Bool, true, false, cond, T, List, [], ◌∷◌, ◌++◌, length, get_or, take, set, replicate, sym, refl, ap, ◌∙◌, subst, append_assoc, suc-le-suc, zero-le, le_of_suc-le-suc, not-suc-le-zero, add-one, arith, get_or-set_other, get_or-set_same}
+use Rattle.std.proofs.Common.{◌≡◌, ℕ, zero, suc, ◌+◌, ◌<◌, ◌≤◌, Bool, true, false, cond, T, List, [], ◌∷◌, length, get_or, take, sym, refl, ap, ◌∙◌, subst, suc-le-suc, zero-le, le_of_suc-le-suc, not-suc-le-zero, arith}
+use denote.Param.Members.{Mut}
+use Rattle.std.specs.Fn.{Called}
+use Rattle.std.specs.Array.{IsFromFnResult, IsFromFnResultFrom}
 use native.Mathlib.Nat.{suc_inj}
 use native.Mathlib.Decide.{ℕ_discrete, dec_lt}
-use Rattle.std.proofs.lemmas.List.{append-nil, take_more_set, get_or-take, get_or_past, length-take-le}
+use Rattle.std.proofs.lemmas.List.{ext_get_or, get_or-take, get_or_past, length-take-le}
 use Rattle.fields.specs.Fields.{FieldModel, FieldLaws}
 use Rattle.polynomials.specs.Polynomials.{Members, Apart, Passes}
 use Rattle.polynomials.proofs.Roots.{All, Distinct}
@@ -18,58 +21,7 @@ length_marked (b ∷ bs) (x ∷ xs) l = go b (length_marked bs xs (suc_inj l))
     go true h = omega arith
     go false h = omega arith
 
--- one entry more
-marked_suc : {A : Type 0} (bs : List Bool) (xs : List A) (j : ℕ) (d : A) → j < length bs → j < length xs
-    → marked (take (suc j) bs) (take (suc j) xs) ≡ marked (take j bs) (take j xs) ++ cond (get_or bs j false) (get_or xs j d ∷ []) []
-marked_suc [] xs j d l k = absurd (not-suc-le-zero l)
-marked_suc (b ∷ bs) [] j d l k = absurd (not-suc-le-zero k)
-marked_suc (b ∷ bs) (x ∷ xs) zero d l k = refl
-marked_suc {A = A} (b ∷ bs) (x ∷ xs) (suc j) d l k = go b _ _ _ (marked_suc bs xs j d (le_of_suc-le-suc l) (le_of_suc-le-suc k))
-  where
-    go : (b : Bool) (m n e : List A) → m ≡ n ++ e → cond b (x ∷ m) m ≡ cond b (x ∷ n) n ++ e
-    go true m n e h = ap (λ u. x ∷ u) h
-    go false m n e h = h
-
-marked_more : {A : Type 0} (bs : List Bool) (xs : List A) (j : ℕ) (d : A) → j < length bs → j < length xs
-    → marked (take (j + 1) bs) (take (j + 1) xs) ≡ marked (take j bs) (take j xs) ++ cond (get_or bs j false) (get_or xs j d ∷ []) []
-marked_more bs xs j d l k = ap (λ i. marked (take i bs) (take i xs)) (add-one j) ∙ marked_suc bs xs j d l k
-
--- a turn of the loop that picks: the entry is marked, or it is not
-pub picked : {A : Type 0} (bs : List Bool) (xs to front : List A) (j count : ℕ) (x : A) → j < length bs → j < length xs → count < length to
-    → get_or bs j false ≡ true → x ≡ get_or xs j x → take count to ≡ front ++ marked (take j bs) (take j xs)
-    → take (count + 1) (set to count x) ≡ front ++ marked (take (j + 1) bs) (take (j + 1) xs)
-picked bs xs to front j count x l k room b e h =
-    take_more_set to count x room ∙ ap (λ u. u ++ (x ∷ [])) h ∙ append_assoc front (marked (take j bs) (take j xs)) (x ∷ [])
-    ∙ ap (λ u. front ++ u)
-    (ap (λ u. marked (take j bs) (take j xs) ++ (u ∷ [])) e
-    ∙ ap (λ u. marked (take j bs) (take j xs) ++ cond u (get_or xs j x ∷ []) []) (sym b) ∙ sym (marked_more bs xs j x l k))
-
-pub passed : {A : Type 0} (bs : List Bool) (xs front : List A) (j : ℕ) → j < length bs → j < length xs
-    → get_or bs j false ≡ false → front ++ marked (take j bs) (take j xs) ≡ front ++ marked (take (j + 1) bs) (take (j + 1) xs)
-passed bs [] front j l k b = absurd (not-suc-le-zero k)
-passed {A = A} bs (x ∷ xs) front j l k b =
-    let before = marked (take j bs) (take j (x ∷ xs)) in
-    ap (λ u. front ++ u)
-    (sym (append-nil before) ∙ ap (λ u. before ++ cond u (get_or (x ∷ xs) j x ∷ []) []) (sym b) ∙ sym (marked_more bs (x ∷ xs) j x l k))
-
 -- marks on the first places
-pub first_none : (n : ℕ) → First (replicate n false) 0
-first_none n j = ((λ t. absurd (unmarked n j t)), (λ l. absurd (not-suc-le-zero l)))
-  where
-    unmarked : (n j : ℕ) → T (get_or (replicate n false) j false) → ⊥
-    unmarked zero j t = t
-    unmarked (suc n) zero t = t
-    unmarked (suc n) (suc j) t = unmarked n j t
-
-pub first_more : (bs : List Bool) (i : ℕ) → i < length bs → First bs i → First (set bs i true) (i + 1)
-first_more bs i l h j = go (ℕ_discrete j i)
-  where
-    go : Dec (j ≡ i) → (T (get_or (set bs i true) j false) → j < i + 1) × (j < i + 1 → T (get_or (set bs i true) j false))
-    go (yes e) = ((λ t. omega arith), (λ a. subst T (sym (ap (λ k. get_or (set bs i true) k false) e ∙ get_or-set_same bs i true false l)) tt))
-    go (no n) =
-        let same = get_or-set_other bs i j true false n in
-        ((λ t. let a : j < i = (h j).0 (subst T same t) in omega arith), (λ a. subst T (sym same) ((h j).1 (omega arith))))
-
 pub first_take : (bs : List Bool) (c n : ℕ) → c ≤ n → n ≤ length bs → First bs c → First (take n bs) c
 first_take bs c n l k h j = go (dec_lt j n)
   where
@@ -116,11 +68,6 @@ all_at P (x ∷ xs) z a (suc i) l = all_at P xs z a.1 i (le_of_suc-le-suc l)
 pub all_from : {A : Type 0} (P : A → Type 0) (xs : List A) (z : A) → ((i : ℕ) → i < length xs → P (get_or xs i z)) → All P xs
 all_from P [] z f = tt
 all_from P (x ∷ xs) z f = (f zero (suc-le-suc zero-le), all_from P xs z (λ i l. f (suc i) (suc-le-suc l)))
-
--- the first entry written
-pub front_set : {A : Type 0} (xs : List A) (x : A) → 0 < length xs → take 1 (set xs 0 x) ≡ x ∷ []
-front_set [] x l = absurd (not-suc-le-zero l)
-front_set (y ∷ xs) x l = refl
 
 module _ {E : Type 0} (m : FieldModel E) where
   pub apart_from : (xs : List E) → Distinct xs → Apart m xs
@@ -185,34 +132,26 @@ module _ {E : Type 0} (m : FieldModel E) where
     distinct_points laws (suc j) n (omega arith),
   )
 
+  -- what a function of the place made, if it made point j + i at place i
+  points_each : {F : Type 0} (g : Mut F (ℕ × Unit {0}) E) (f : F) (whole : List E) (j i n k : ℕ) → ((i : ℕ) (y : E) (q : F) → Called g f (i, tt) y q → (q ≡ f) × (y ≡ m.point (i + j)))
+      → IsFromFnResultFrom g f whole i n → i ≤ k → k < i + n → get_or whole k m.zero ≡ m.point (k + j)
+  points_each g f whole j i zero k made each low high = absurd (omega arith)
+  points_each g f whole j i (suc n) k made each low high = go (ℕ_discrete k i) (points_each g f whole j (i + 1) n k made (subst (λ q. IsFromFnResultFrom g q whole (i + 1) n) call.0 each.4))
+    where
+      call : (each.0 ≡ f) × (each.1 ≡ m.point (i + j))
+      call = made i each.1 each.0 each.3
+
+      go : Dec (k ≡ i) → (i + 1 ≤ k → k < i + 1 + n → get_or whole k m.zero ≡ m.point (k + j)) → get_or whole k m.zero ≡ m.point (k + j)
+      go (yes e) later = ap (λ u. get_or whole u m.zero) e ∙ each.2.1 m.zero ∙ call.1 ∙ ap (λ u. m.point (u + j)) (sym e)
+      go (no a) later = later (omega arith) (omega arith)
+
+  pub points_made : {F : Type 0} (g : Mut F (ℕ × Unit {0}) E) (f : F) (whole : List E) (j n : ℕ) → IsFromFnResult g f whole n
+      → ((i : ℕ) (y : E) (q : F) → Called g f (i, tt) y q → (q ≡ f) × (y ≡ m.point (i + j))) → whole ≡ points_from m j n
+  points_made g f whole j n made each = ext_get_or m.zero whole (points_from m j n) (made.long ∙ sym (length_points j n))
+      (λ k l. points_each g f whole j 0 n k each made.each zero-le (omega (arith, made.long)) ∙ sym (getD_points j n k m.zero (omega (arith, made.long))))
+
   -- the children before place j are filled: the known are as given, the others have the value at their point
   abbrev pub Filled : List Bool → List E → List E → (E → E) → List E → ℕ → Type 0
   Filled known given points f children j =
       ((i : ℕ) → i < j → get_or children i m.zero ≡ cond (get_or known i false) (get_or given i m.zero) (f (get_or points i m.zero)))
       × ((i : ℕ) → j ≤ i → get_or children i m.zero ≡ get_or given i m.zero)
-
-  pub filled_value : (known : List Bool) (given points : List E) (f : E → E) (children : List E) (j : ℕ) (v : E) → j < length children → get_or known j false ≡ false
-      → v ≡ f (get_or points j m.zero) → Filled known given points f children j → Filled known given points f (set children j v) (j + 1)
-  filled_value known given points f children j v l b e h = (
-    (λ i a. go i (ℕ_discrete i j) a),
-    (λ i a. get_or-set_other children j i v m.zero (λ q. omega arith) ∙ h.1 i (omega arith)),
-  )
-    where
-      go : (i : ℕ) → Dec (i ≡ j) → i < j + 1
-          → get_or (set children j v) i m.zero ≡ cond (get_or known i false) (get_or given i m.zero) (f (get_or points i m.zero))
-      go i (no n) a = get_or-set_other children j i v m.zero n ∙ h.0 i (omega arith)
-      go i (yes q) a =
-          ap (λ k. get_or (set children j v) k m.zero) q ∙ get_or-set_same children j v m.zero l ∙ e
-          ∙ ap (λ u. cond u (get_or given j m.zero) (f (get_or points j m.zero))) (sym b)
-          ∙ ap (λ k. cond (get_or known k false) (get_or given k m.zero) (f (get_or points k m.zero))) (sym q)
-
-  pub filled_known : (known : List Bool) (given points : List E) (f : E → E) (children : List E) (j : ℕ) → get_or known j false ≡ true
-      → Filled known given points f children j → Filled known given points f children (j + 1)
-  filled_known known given points f children j b h = ((λ i a. go i (ℕ_discrete i j) a), (λ i a. h.1 i (omega arith)))
-    where
-      go : (i : ℕ) → Dec (i ≡ j) → i < j + 1 → get_or children i m.zero ≡ cond (get_or known i false) (get_or given i m.zero) (f (get_or points i m.zero))
-      go i (no n) a = h.0 i (omega arith)
-      go i (yes q) a =
-          h.1 i (omega arith) ∙ ap (λ k. get_or given k m.zero) q
-          ∙ ap (λ u. cond u (get_or given j m.zero) (f (get_or points j m.zero))) (sym b)
-          ∙ ap (λ k. cond (get_or known k false) (get_or given k m.zero) (f (get_or points k m.zero))) (sym q)

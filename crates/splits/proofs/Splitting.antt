@@ -1,14 +1,14 @@
 -- A gate of which some children are known: there is one balanced gate with these, and it is what the polynomial through them gives.
 --   nodes, values   the points of the gate and of its known children, and the challenges there
 --   Solved          cs are the coefficients of a polynomial through these, and `after` has the known children and its values at the others
-use Rattle.std.proofs.Common.{◌≡◌, ℕ, zero, suc, ◌+◌, ◌-◌, ◌<◌, ◌≤◌, Bool, true, false, cond, T, List, [], ◌∷◌, ◌++◌, length, get_or, take, set, sym, refl, ap, ◌∙◌, subst, ap₂, suc-le-suc, zero-le, le_of_suc-le-suc, arith}
+use Rattle.std.proofs.Common.{◌≡◌, ℕ, zero, suc, ◌+◌, ◌-◌, ◌<◌, ◌≤◌, Bool, true, false, cond, T, List, ◌∷◌, length, get_or, sym, refl, ap, ◌∙◌, subst, ap₂, suc-le-suc, zero-le, le_of_suc-le-suc, arith}
 use Rattle.std.proofs.lemmas.List.{ext_get_or}
 use Rattle.fields.specs.Fields.{FieldModel, FieldLaws}
 use Rattle.polynomials.specs.Polynomials.{value, Members, Apart, Passes, Polynomial, newton}
 use Rattle.polynomials.proofs.Carried.{value_in, agree_everywhere}
 use Rattle.splits.specs.Gates.{Balanced, Agree}
 use Rattle.splits.specs.Marks.{missing, marked, points_from}
-use Rattle.splits.proofs.Picked.{front_set, length_marked, all_marked, distinct_marked, all_from, apart_from, members_from, passes_at, passes_from, length_points, getD_points, all_points, distinct_points}
+use Rattle.splits.proofs.Picked.{length_marked, all_marked, distinct_marked, all_from, apart_from, members_from, passes_at, passes_from, length_points, getD_points, all_points, distinct_points}
 
 module _ {E : Type 0} (m : FieldModel E) (own : E) (known : List Bool) (given : List E) where
   abbrev pub nodes : List E
@@ -84,30 +84,16 @@ module _ {E : Type 0} {m : FieldModel E} (laws : FieldLaws m) (own : E) (known :
       ext_get_or m.zero xs ys (l ∙ sym k)
       (λ j h. sym (b.4 j h) ∙ same (m.point (j + 1)) (laws.point_in (j + 1) (omega arith)) ∙ c.4 j (omega arith))
 
-  -- what the loops gather is the nodes and the values
-  pub nodes_are : (room after points : List E) (count : ℕ) (p : E) → 0 < length room → p ≡ m.point 0 → points ≡ points_from m 1 (length given)
-      → take count after ≡ take 1 (set room 0 p) ++ marked known points → take count after ≡ nodes m own known given
-  nodes_are room after points count p l e ep h = h ∙ ap₂ ◌++◌ (front_set room p l ∙ ap (λ u. u ∷ []) e) (ap (marked known) ep)
-
-  pub values_are : (room after : List E) (count count' : ℕ) → 0 < length room → count ≡ count'
-      → take count' after ≡ take 1 (set room 0 own) ++ marked known given → take count after ≡ values m own known given
-  values_are room after count count' l e h = ap (λ n. take n after) e ∙ h ∙ ap (λ u. u ++ marked known given) (front_set room own l)
-
-  pub same_count : (points : List E) → points ≡ points_from m 1 (length given) → length (marked known points) ≡ length (marked known given)
-  same_count points e =
-      ap (λ u. length (marked known u)) e
-      ∙ omega (arith, length_marked known (points_from m 1 (length given)) points_long, length_marked known given long)
-
-  pub solved_from : (ns vs cs ds points after : List E) → ns ≡ nodes m own known given → vs ≡ values m own known given → ds ≡ cs → points ≡ points_from m 1 (length given)
+  pub solved_from : (ns fs vs cs points after : List E) → ns ≡ nodes m own known given → fs ≡ nodes m own known given → vs ≡ values m own known given → points ≡ points_from m 1 (length given)
       → Polynomial m (length ns) (newton m ns cs) → Passes m (newton m ns cs) ns vs
-      → ((j : ℕ) → j < length given → get_or after j m.zero ≡ cond (get_or known j false) (get_or given j m.zero) (newton m ns ds (get_or points j m.zero)))
+      → ((j : ℕ) → j < length given → get_or after j m.zero ≡ cond (get_or known j false) (get_or given j m.zero) (newton m fs cs (get_or points j m.zero)))
       → Solved m own known given (nodes m own known given) (values m own known given) cs after
-  solved_from ns vs cs ds points after en ev ed ep polynomial passes filled =
+  solved_from ns fs vs cs points after en ef ev ep polynomial passes filled =
       subst (λ u. Solved m own known given u (values m own known given) cs after) en
       (subst (λ u. Solved m own known given ns u cs after) ev (
         polynomial,
         passes,
-        λ j l. filled j l ∙ ap₂ (λ u v. cond (get_or known j false) (get_or given j m.zero) (newton m ns u (get_or v j m.zero))) ed ep,
+        λ j l. filled j l ∙ ap₂ (λ u v. cond (get_or known j false) (get_or given j m.zero) (newton m u cs (get_or v j m.zero))) (ef ∙ sym en) ep,
       ))
 
   module _ (cs after : List E) (after-long : length after ≡ length given) (solved : Solved m own known given (nodes m own known given) (values m own known given) cs after) where

@@ -15,30 +15,16 @@ pub fn differing<F: Field>(field: &F, a: &[F::Element], b: &[F::Element]) -> usi
     a.iter().zip(b).filter(|(x, y)| x != y).count()
 }
 
-// What `balances` answers, with room for what the children's challenges should be.
-fn balances_in<F: Field>(
-    field: &F,
-    k: usize,
-    own: F::Element,
-    children: &[F::Element],
-    expected: &mut [F::Element],
-) -> bool
-    requires sizes { (k ≤ length children.now) × ((length children.now ≤ 8) × (length expected.old ≡ length children.now)) }
-    requires elements { let m = F.Field.model field.now in (T (m.member own)) × (Members m children.now) }
-    ensures { let m = F.Field.model field.now in (T result → Balanced m k own children.now) × (Balanced m k own children.now → T result) }
-{
-    expected.copy_from_slice(children);
-    split_simulated(field, k, own, expected);
-    differing(field, expected, children) == 0
-}
-
 // Whether the children's challenges balance a gate that wants k of them.
 pub fn balances<F: Field>(field: &F, k: usize, own: F::Element, children: &[F::Element]) -> bool
     requires sizes { (k ≤ length children.now) × (length children.now ≤ 8) }
     requires elements { let m = F.Field.model field.now in (T (m.member own)) × (Members m children.now) }
     ensures { let m = F.Field.model field.now in (T result → Balanced m k own children.now) × (Balanced m k own children.now → T result) }
 {
-    let mut expected = [own; 8];
-    let all = &mut expected[..];
-    balances_in(field, k, own, children, &mut all[..children.len()])
+    let mut room = [own; 8];
+    let room: &mut [F::Element] = &mut room;
+    let expected = &mut room[..children.len()];
+    expected.copy_from_slice(children);
+    split_simulated(field, k, own, expected);
+    &*expected == children
 }

@@ -21,46 +21,15 @@ fn fill<F: Field>(
     requires elements { let m = F.Field.model field.now in (Members m nodes.now) × ((Members m coefficients.now) × (Members m points.now)) }
     ensures { let m = F.Field.model field.now in ((j : ℕ) → j < length children.old → slice_index_or children.new j m.zero ≡ (if get_or known.now j false then slice_index_or children.old j m.zero else newton m nodes.now coefficients.now (slice_index_or points.now j m.zero))) }
 {
-    for j in 0..points.len() {
+    // kept: j for `known` and `points`: behind a `zip` of `iter_mut` a proof knows nothing of what was written
+    for (j, child) in children.iter_mut().enumerate() {
         if !known[j] {
-            children[j] = value(field, nodes, coefficients, points[j]);
+            *child = value(field, nodes, coefficients, points[j]);
         }
     }
 }
 
-// What `split` does, with room for the points of the known and for their values.
-fn split_in<F: Field>(
-    field: &F,
-    own: F::Element,
-    points: &[F::Element],
-    known: &[bool],
-    nodes: &mut [F::Element],
-    values: &mut [F::Element],
-    children: &mut [F::Element],
-)
-    requires sizes { (length known.now ≡ length children.old) × ((length children.old ≤ 8) × ((length nodes.old ≡ 9) × (length values.old ≡ 9))) }
-    requires points { points.now ≡ points_from (F.Field.model field.now) 1 (length children.old) }
-    requires elements { let m = F.Field.model field.now in (T (m.member own)) × (Members m children.old) }
-    ensures elements { Members (F.Field.model field.now) children.new }
-    ensures balanced { Balanced (F.Field.model field.now) (missing known.now) own children.new }
-    ensures kept { Agree (F.Field.model field.now) known.now children.new children.old }
-    ensures only { let m = F.Field.model field.now in ((others : List F.Element) → length others ≡ length children.old → Balanced m (missing known.now) own others → Agree m known.now others children.old → others ≡ children.new) }
-{
-    nodes[0] = field.point(0);
-    values[0] = own;
-    let count = pick(known, points, nodes);
-    pick(known, children, values);
-    interpolate(field, &nodes[..count], &mut values[..count]);
-    fill(
-        field,
-        &nodes[..count],
-        &values[..count],
-        points,
-        known,
-        children,
-    );
-}
-
+// kept: `known` beside `children`, not options: the children are split in place, where they lie among others, and marks are computed apart from values
 // Splits the own challenge of a gate: keeps the challenges of the known children and writes the others'. The gate wants as many children as are not known.
 // With n children of which d are known: d quotients, and d * n products besides.
 pub fn split<F: Field>(field: &F, own: F::Element, known: &[bool], children: &mut [F::Element])
@@ -71,19 +40,17 @@ pub fn split<F: Field>(field: &F, own: F::Element, known: &[bool], children: &mu
     ensures kept { Agree (F.Field.model field.now) known.now children.new children.old }
     ensures only { let m = F.Field.model field.now in ((others : List F.Element) → length others ≡ length children.old → Balanced m (missing known.now) own others → Agree m known.now others children.old → others ≡ children.new) }
 {
-    let n = children.len();
     let points = child_points(field);
-    let mut nodes = [own; 9];
-    let mut values = [own; 9];
-    split_in(
-        field,
-        own,
-        &points[..n],
-        known,
-        &mut nodes,
-        &mut values,
-        children,
-    );
+    let points = &points[..children.len()];
+    let nodes = pick(field.point(0), known, points);
+    let values = pick(own, known, children);
+    let (nodes, values) = (nodes.as_slice(), values.as_slice());
+    let mut room = [own; 9];
+    let room: &mut [F::Element] = &mut room;
+    let coefficients = &mut room[..values.len()];
+    coefficients.copy_from_slice(values);
+    interpolate(field, nodes, coefficients);
+    fill(field, nodes, coefficients, points, known, children);
 }
 
 // Splits the own challenge of a gate that wants k of its children and of which the first n - k are known, as a simulated gate's are.

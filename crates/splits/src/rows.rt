@@ -1,7 +1,9 @@
 // Rows of at most eight entries, one for each child of a gate.
-ghost use Rattle.std.specs.Prelude.{◌≡◌, ◌+◌, ◌<◌, ◌≤◌, ◌++◌, length, take};
+ghost use Rattle.std.specs.Prelude.{◌≡◌, ◌<◌, ◌≤◌, ◌∷◌, length};
+ghost use Rattle.bounded.specs.Rows.{items};
 ghost use Rattle.splits.specs.Marks.{marked, First, points_from};
 
+use bounded::Row;
 use fields::Field;
 
 // The gate itself stands at point 0.
@@ -11,16 +13,7 @@ const FIRST_CHILD: u8 = 1;
 pub fn child_points<F: Field>(field: &F) -> [F::Element; 8]
     ensures { result ≡ points_from (F.Field.model field.now) 1 8 }
 {
-    [
-        field.point(FIRST_CHILD),
-        field.point(FIRST_CHILD + 1),
-        field.point(FIRST_CHILD + 2),
-        field.point(FIRST_CHILD + 3),
-        field.point(FIRST_CHILD + 4),
-        field.point(FIRST_CHILD + 5),
-        field.point(FIRST_CHILD + 6),
-        field.point(FIRST_CHILD + 7),
-    ]
+    std::array::from_fn(|j: usize| field.point(FIRST_CHILD + j as u8))
 }
 
 // Marks on the first children.
@@ -30,25 +23,20 @@ pub fn first(count: usize) -> [bool; 8]
     ensures first { First result count }
 {
     let mut marks = [false; 8];
-    for j in 0..count {
-        marks[j] = true;
-    }
+    marks[..count].fill(true);
     marks
 }
 
-// Copies the marked entries of `row` behind the first entry of `to`, and answers how many stand there then.
-pub fn pick<E: Copy>(marks: &[bool], row: &[E], to: &mut [E]) -> usize
-    requires { (length marks.now ≡ length row.now) × (length row.now < length to.old) }
-    ensures count { result ≡ length (marked marks.now row.now) + 1 }
-    ensures within { result ≤ length to.new }
-    ensures picked { take result to.new ≡ take 1 to.old ++ marked marks.now row.now }
+// A first entry, and behind it the marked entries of a row.
+pub fn pick<E: Copy>(first: E, marks: &[bool], row: &[E]) -> Row<E, 9>
+    requires { (length marks.now ≡ length row.now) × (length row.now ≤ 8) }
+    ensures { items result ≡ first ∷ marked marks.now row.now }
 {
-    let mut count = 1;
-    for j in 0..row.len() {
-        if marks[j] {
-            to[count] = row[j];
-            count += 1;
+    let mut picked = Row::of(first, &[first]);
+    for (entry, is_marked) in row.iter().zip(marks) {
+        if *is_marked {
+            picked.push(*entry);
         }
     }
-    count
+    picked
 }

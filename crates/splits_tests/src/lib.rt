@@ -11,10 +11,7 @@ mod tests {
     use std::test::Fail;
 
     fn order(q: u32) -> Result<Scalars, Fail> {
-        match Scalars::new(q) {
-            Ok(field) => Ok(field),
-            Err(_) => Err(Fail::new("the order is refused")),
-        }
+        Scalars::new(q).map_err(|_| Fail::new("the order is refused"))
     }
 
     // any of two: own 7 and child one 2 give 8, where shares that add up would give 5
