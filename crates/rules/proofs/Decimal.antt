@@ -1,5 +1,5 @@
 -- A key's digits.
-use Rattle.std.proofs.Common.{◌≡◌, ℕ, ◌+◌, ◌-◌, ◌*◌, ◌/◌, ◌%◌, ◌<◌, ◌≤◌, false, List, [], ◌∷◌, ◌++◌, length, get_or, drop, Ok, Err, sym, refl, ap, ◌∙◌, arith, lit<, le-ltb, lt-ltb, ne_eqb, le-leb}
+use Rattle.std.proofs.Common.{◌≡◌, ℕ, ◌+◌, ◌-◌, ◌*◌, ◌/◌, ◌%◌, ◌<◌, ◌≤◌, false, List, [], ◌∷◌, ◌++◌, length, get_or, drop, Ok, Err, Some, slice_get, sym, refl, ap, ◌∙◌, arith, lit<, le-ltb, lt-ltb, ne_eqb, le-leb}
 use native.Mathlib.Decide.{dec_lt}
 use borrow.Author.Tests.{lt-leb}
 use Rattle.std.proofs.lemmas.List.{drop_more, length-append}
@@ -7,7 +7,7 @@ use Rattle.refusals.specs.declared.Refusal.TheVariants.{Unexpected, KeyNumber}
 use Rattle.rules.specs.Grammar.{key, decimal}
 use Rattle.rules.specs.Faults.{number, digits, after, Open, State, state, step, finish, run, digit}
 use Rattle.rules.specs.ReaderSteps.{from, Numbered, Unnumbered}
-use Rattle.rules.proofs.Steps.{moves, stops, fails, unfinished, run_cons, ends, go, inside}
+use Rattle.rules.proofs.Steps.{moves, stops, fails, unfinished, run_cons, ends, go, inside, stands}
 
 pub decimal_one : (d : ℕ) → d < 10 → decimal d ≡ (48 + d) ∷ []
 unfolding decimal
@@ -76,21 +76,43 @@ past s gs k f v at e = elim (dec_lt at (length s)) [
 ]
 
 module _ (s : List ℕ) (at : ℕ) where
-  pub first : (b : ℕ) → get_or s at 0 ≡ b → 49 ≤ b → b ≤ 57 → Sofar s at (b - 48) (at + 1)
-  first b e lo hi = record { least = omega arith; most = omega arith; reach = omega (arith, inside s at b e (omega arith)); ends = omega (arith, ap length (decimal_one (b - 48) (omega arith))); account = λ gs k. moves s (state gs k number) at e (omega arith) (step_first gs k at b lo hi) }
+  pub first : (d : ℕ) → get_or s at 0 ≡ 48 + d → 1 ≤ d → d ≤ 9 → Sofar s at d (at + 1)
+  first d e lo hi =
+      let here = stands s at (48 + d) e (omega arith) in
+      let same : 48 + d - 48 ≡ d = omega arith in
+      record {
+        least = lo;
+        most = omega arith;
+        reach = omega (arith, inside s at (48 + d) here);
+        ends = omega (arith, ap length (decimal_one d (omega arith)));
+        account = λ gs k. moves s (state gs k number) at here (step_first gs k at (48 + d) (omega arith) (omega arith)) ∙ ap (λ m. from s (state gs k (digits at m)) (at + 1)) same;
+      }
 
   pub unnumbered_zero : get_or s at 0 ≡ 48 → Unnumbered s at (KeyNumber at)
-  unnumbered_zero e gs k = stops s (state gs k number) at e (lit< tt) (step_zero gs k at)
+  unnumbered_zero e gs k = stops s (state gs k number) at (stands s at 48 e (lit< tt)) (step_zero gs k at)
 
   pub unnumbered : digit (get_or s at 0) ≡ false → Unnumbered s at (Unexpected at)
   unnumbered e gs k = fails s (state gs k number) at (step_none gs k at (get_or s at 0) e) (unfinished gs k number at tt)
 
-  module _ (v next : ℕ) (so : Sofar s at v next) (b : ℕ) (e : get_or s next 0 ≡ b) where
-    pub again : 48 ≤ b → b ≤ 57 → v * 10 + (b - 48) ≤ 255 → Sofar s at (v * 10 + (b - 48)) (next + 1)
-    again lo hi most = record { least = omega (arith, so.least); most = most; reach = omega (arith, inside s next b e (omega arith)); ends = omega (arith, so.ends, ap length (decimal_more v (b - 48) so.least (omega arith) most), length-append (decimal v) ((48 + (b - 48)) ∷ [])); account = λ gs k. so.account gs k ∙ moves s (state gs k (digits at v)) next e (omega arith) (step_digit gs k at v next b lo hi most) }
+  module _ (v next : ℕ) (so : Sofar s at v next) where
+    pub numbered : digit (get_or s next 0) ≡ false → Numbered s at v next
+    numbered out = record { ends = so.ends; account = λ gs k. so.account gs k ∙ past s gs k at v next out }
 
-    pub large : 48 ≤ b → b ≤ 57 → 255 < v * 10 + (b - 48) → Unnumbered s at (KeyNumber at)
-    large lo hi most gs k = so.account gs k ∙ stops s (state gs k (digits at v)) next e (omega arith) (step_large gs k at v next b lo hi most)
+    module _ (d : ℕ) (e : get_or s next 0 ≡ 48 + d) (small : d ≤ 9) where
+      same : 48 + d - 48 ≡ d
+      same = omega arith
 
-    pub numbered : digit b ≡ false → Numbered s at v next
-    numbered out = record { ends = so.ends; account = λ gs k. so.account gs k ∙ past s gs k at v next (ap digit e ∙ out) }
+      here : slice_get s next ≡ Some (48 + d)
+      here = stands s next (48 + d) e (omega arith)
+
+      pub again : v * 10 + d ≤ 255 → Sofar s at (v * 10 + d) (next + 1)
+      again most = record {
+        least = omega (arith, so.least);
+        most = most;
+        reach = omega (arith, inside s next (48 + d) here);
+        ends = omega (arith, so.ends, ap length (decimal_more v d so.least (omega arith) most), length-append (decimal v) ((48 + d) ∷ []));
+        account = λ gs k. so.account gs k ∙ moves s (state gs k (digits at v)) next here (step_digit gs k at v next (48 + d) (omega arith) (omega arith) (omega (arith, same))) ∙ ap (λ m. from s (state gs k (digits at (v * 10 + m))) (next + 1)) same;
+      }
+
+      pub large : 255 < v * 10 + d → Unnumbered s at (KeyNumber at)
+      large most gs k = so.account gs k ∙ stops s (state gs k (digits at v)) next here (step_large gs k at v next (48 + d) (omega arith) (omega arith) (omega (arith, same)))

@@ -1,7 +1,8 @@
 -- Items, gates and whole texts.
-use Rattle.std.proofs.Common.{◌≡◌, ℕ, suc, ◌+◌, ◌-◌, ◌<◌, ◌≤◌, Bool, true, false, ◌||◌, eqb, ◌⊎◌, List, [], ◌∷◌, ◌++◌, length, get_or, drop, set, Ok, Err, Result, sym, refl, ap, ◌∙◌, ap₂, inl, inr, append_assoc, arith, lit<, ltb-true, le-ltb, lt-ltb, eq-eqb, ne_eqb, le-leb, leb-true, MatchResult}
+use Rattle.std.proofs.Common.{◌≡◌, ℕ, suc, ◌+◌, ◌-◌, ◌<◌, ◌≤◌, Bool, true, false, ◌||◌, eqb, ◌⊎◌, List, [], ◌∷◌, ◌++◌, length, get_or, drop, set, Ok, Err, Result, Some, slice_get, sym, refl, ap, ◌∙◌, ap₂, inl, inr, append_assoc, arith, lit<, ltb-true, le-ltb, lt-ltb, eq-eqb, ne_eqb, le-leb, leb-true}
 use native.Mathlib.Decide.{ℕ_discrete}
 use borrow.Author.Tests.{lt-leb}
+use Rattle.std.proofs.lemmas.Option.{get_or_from_slice_get}
 use Rattle.std.proofs.lemmas.List.{drop_more, append-nil, length-append, length-set, set_at}
 use Rattle.refusals.specs.declared.Refusal.{Refusal}
 use Rattle.refusals.specs.declared.Refusal.TheVariants.{TextLength, Unexpected, TooDeep, TooManyKeys, TooManyItems, TooFewItems}
@@ -14,7 +15,7 @@ use Rattle.rules.specs.Views.{listing}
 use Rattle.rules.specs.Faults.{item, number, after, Open, opened, State, state, step, finish, run, follow, close, digit, fits, threshold, scan, ◌then◌}
 use Rattle.rules.specs.ReaderSteps.{from, onto, Numbered, Unnumbered, Headed, Begins, Proper, Item, Refused, Items, ItemsRefused}
 use Rattle.rules.proofs.Rows.{gate_length}
-use Rattle.rules.proofs.Steps.{moves, stops, fails, unfinished, run_cons, go, inside, spelling}
+use Rattle.rules.proofs.Steps.{moves, stops, fails, unfinished, run_cons, go, inside, stands, spelling}
 
 or_true : (b : Bool) → (b || true) ≡ true
 or_true true = refl
@@ -32,16 +33,16 @@ pub key_ok : (gs : List Open) (k at : ℕ) → length gs < 8 → k < 16 → step
 unfolding step
 key_ok gs k at h l = rw (lt-leb 8 (length gs) h, lt-leb 16 k l)
 
-pub leaf_deep : (s : List ℕ) (at depth k : ℕ) → get_or s at 0 ≡ 75 → depth ≡ 0 → Refused s at depth k (TooDeep at)
-leaf_deep s at depth k e z gs l = stops s (state gs k item) at e (lit< tt) (key_deep gs k at (omega arith))
+pub leaf_deep : (s : List ℕ) (at depth k : ℕ) → slice_get s at ≡ Some 75 → depth ≡ 0 → Refused s at depth k (TooDeep at)
+leaf_deep s at depth k e z gs l = stops s (state gs k item) at e (key_deep gs k at (omega arith))
 
-pub leaf_many : (s : List ℕ) (at depth k : ℕ) → get_or s at 0 ≡ 75 → 0 < depth → k ≡ 16 → Refused s at depth k (TooManyKeys at)
-leaf_many s at depth k e d z gs l = stops s (state gs k item) at e (lit< tt) (key_many gs k at (omega arith) (omega arith))
+pub leaf_many : (s : List ℕ) (at depth k : ℕ) → slice_get s at ≡ Some 75 → 0 < depth → k ≡ 16 → Refused s at depth k (TooManyKeys at)
+leaf_many s at depth k e d z gs l = stops s (state gs k item) at e (key_many gs k at (omega arith) (omega arith))
 
-pub leaf_number : (s : List ℕ) (at depth k : ℕ) {x : Refusal} → get_or s at 0 ≡ 75 → 0 < depth → k < 16 → Unnumbered s (at + 1) x → Refused s at depth k x
-leaf_number s at depth k e d l u gs g = moves s (state gs k item) at e (lit< tt) (key_ok gs k at (omega arith) l) ∙ u gs (k + 1)
+pub leaf_number : (s : List ℕ) (at depth k : ℕ) {x : Refusal} → slice_get s at ≡ Some 75 → 0 < depth → k < 16 → Unnumbered s (at + 1) x → Refused s at depth k x
+leaf_number s at depth k e d l u gs g = moves s (state gs k item) at e (key_ok gs k at (omega arith) l) ∙ u gs (k + 1)
 
-pub leaf_read : (s : List ℕ) (at depth : ℕ) (t t' : Entries) (v end : ℕ) → get_or s at 0 ≡ 75 → 0 < depth → t.keys < 16 → Numbered s (at + 1) v end → t'.keys ≡ t.keys + 1 → listing t' ≡ listing t ++ leaf v at ∷ [] → Item s at depth t t' end
+pub leaf_read : (s : List ℕ) (at depth : ℕ) (t t' : Entries) (v end : ℕ) → slice_get s at ≡ Some 75 → 0 < depth → t.keys < 16 → Numbered s (at + 1) v end → t'.keys ≡ t.keys + 1 → listing t' ≡ listing t ++ leaf v at ∷ [] → Item s at depth t t' end
 leaf_read s at depth t t' v end e d l n ks h =
     let len : length (listing t') ≡ length (listing t) + 1 = ap length h ∙ length-append (listing t) (leaf v at ∷ []) in record {
       rule = key v;
@@ -51,7 +52,7 @@ leaf_read s at depth t t' v end e d l n ks h =
       counted = ks;
       ends = omega (arith, n.ends);
       listed = h;
-      account = λ gs g. moves s (state gs t.keys item) at e (lit< tt) (key_ok gs t.keys at (omega arith) l) ∙ n.account gs (t.keys + 1) ∙ ap (λ k. from s (state gs k (after (key v))) end) (sym ks);
+      account = λ gs g. moves s (state gs t.keys item) at e (key_ok gs t.keys at (omega arith) l) ∙ n.account gs (t.keys + 1) ∙ ap (λ k. from s (state gs k (after (key v))) end) (sym ks);
     }
 
 -- no item begins so
@@ -72,8 +73,8 @@ deep_digit gs k at b lo hi h = rw (ne_eqb b 75 (λ e. omega arith), ne_eqb b 97 
 
 pub gate_deep : (s : List ℕ) (at depth k : ℕ) → Begins (get_or s at 0) → depth ≡ 0 → Refused s at depth k (TooDeep at)
 gate_deep s at depth k bg z gs g = elim (ℕ_discrete (get_or s at 0) 97) [
-  | yes e ↦ stops s (state gs k item) at e (lit< tt) (deep_a gs k at (omega arith))
-  | no n ↦ (let q = bg n in stops s (state gs k item) at refl (omega (arith, q)) (deep_digit gs k at (get_or s at 0) q.0 q.1 (omega arith)))
+  | yes e ↦ stops s (state gs k item) at (stands s at 97 e (lit< tt)) (deep_a gs k at (omega arith))
+  | no n ↦ (let q = bg n in stops s (state gs k item) at (stands s at (get_or s at 0) refl (omega (arith, q))) (deep_digit gs k at (get_or s at 0) q.0 q.1 (omega arith)))
 ]
 
 -- a byte in the text
@@ -169,18 +170,29 @@ still_open : (gs : List Open) (k : ℕ) (g : Open) (r : Rule) (at : ℕ) → fin
 unfolding finish
 still_open gs k g r at = refl
 
+-- what comes of a gate's items from here on, comes of them from their start on
+pub record Going (s : List ℕ) (start depth : ℕ) (t0 : Entries) (at : ℕ) (c : List ℕ) (t : Entries) : Type 0 where
+  pub read : (c' : List ℕ) (t' : Entries) (end : ℕ) → Items s at depth c c' t t' end → Items s start depth [] c' t0 t' end
+  pub refused : (x : Refusal) → ItemsRefused s at depth (length c) t.keys x → ItemsRefused s start depth 0 t0.keys x
+
+pub going : (s : List ℕ) (start depth : ℕ) (t : Entries) → Going s start depth t start [] t
+going s start depth t = record { read = λ c t2 end j. j; refused = λ x r. r }
+
+pub items_refused : (s : List ℕ) (at depth n k : ℕ) (x : Refusal) → Refused s at depth k x → ItemsRefused s at depth n k x
+items_refused s at depth n k x r gs h sofar e g = r (opened h sofar ∷ gs) g
+
 module _ (s : List ℕ) (at depth : ℕ) (c c1 : List ℕ) (t t1 : Entries) (next : ℕ) (it : Item s at depth t t1 next)
     (held : c1 ≡ c ++ length (listing t) ∷ []) where
   longer : length c1 ≡ length c + 1
   longer = ap length held ∙ length-append c (length (listing t) ∷ [])
 
-  pub items_full : get_or s next 0 ≡ 44 → length c1 ≡ 8 → ItemsRefused s at depth (length c) t.keys (TooManyItems next)
-  items_full e f gs h sofar n g = it.account (opened h sofar ∷ gs) g ∙ stops s (state (opened h sofar ∷ gs) t1.keys (after it.rule)) next e (lit< tt) (comma_full gs t1.keys h sofar it.rule next (omega (arith, longer)))
+  pub items_full : slice_get s next ≡ Some 44 → length c1 ≡ 8 → ItemsRefused s at depth (length c) t.keys (TooManyItems next)
+  items_full e f gs h sofar n g = it.account (opened h sofar ∷ gs) g ∙ stops s (state (opened h sofar ∷ gs) t1.keys (after it.rule)) next e (comma_full gs t1.keys h sofar it.rule next (omega (arith, longer)))
 
   pub items_other : (get_or s next 0 ≡ 44 → ⊥) → (get_or s next 0 ≡ 41 → ⊥) → ItemsRefused s at depth (length c) t.keys (Unexpected next)
   items_other n m gs h sofar e g = it.account (opened h sofar ∷ gs) g ∙ fails s (state (opened h sofar ∷ gs) t1.keys (after it.rule)) next (other gs t1.keys h sofar it.rule next (get_or s next 0) n m) (still_open gs t1.keys (opened h sofar) it.rule next)
 
-  pub items_last : get_or s next 0 ≡ 41 → Items s at depth c c1 t t1 next
+  pub items_last : slice_get s next ≡ Some 41 → Items s at depth c c1 t t1 next
   items_last e = record {
     one = it.rule;
     others = none;
@@ -189,16 +201,16 @@ module _ (s : List ℕ) (at depth : ℕ) (c c1 : List ℕ) (t t1 : Entries) (nex
     sized = omega (arith, it.sized);
     counted = omega (arith, it.counted);
     many = longer;
-    inside = inside s next 41 e (lit< tt);
+    inside = inside s next 41 e;
     ends = omega (arith, it.ends, length-append (text it.rule) []);
     holds = held;
     listed = it.listed ∙ ap (λ (xs : List Row). listing t ++ xs) (sym (append-nil (rows it.rule (length (listing t)) at)));
-    account = λ gs h sofar n g. it.account (opened h sofar ∷ gs) g ∙ from_step s (state (opened h sofar ∷ gs) t1.keys (after it.rule)) next (inside s next 41 e (lit< tt)) ∙ ap (λ b. onto s (step (state (opened h sofar ∷ gs) t1.keys (after it.rule)) next b) (next + 1)) e ∙ ap (λ r. onto s r (next + 1)) (bracket gs t1.keys h sofar it.rule next);
+    account = λ gs h sofar n g. it.account (opened h sofar ∷ gs) g ∙ from_step s (state (opened h sofar ∷ gs) t1.keys (after it.rule)) next (inside s next 41 e) ∙ ap (λ b. onto s (step (state (opened h sofar ∷ gs) t1.keys (after it.rule)) next b) (next + 1)) (get_or_from_slice_get s next 41 0 e) ∙ ap (λ r. onto s r (next + 1)) (bracket gs t1.keys h sofar it.rule next);
   }
 
-  module _ (e : get_or s next 0 ≡ 44) (less : length c1 < 8) where
+  module _ (e : slice_get s next ≡ Some 44) (less : length c1 < 8) where
     to_next : (gs : List Open) (h : Head) (sofar : Rules) → count sofar ≡ length c → suc (length gs) + depth ≡ 8 → from s (state (opened h sofar ∷ gs) t.keys item) at ≡ from s (state (opened h (sofar then more it.rule none) ∷ gs) t1.keys item) (next + 1)
-    to_next gs h sofar n g = it.account (opened h sofar ∷ gs) g ∙ moves s (state (opened h sofar ∷ gs) t1.keys (after it.rule)) next e (lit< tt) (comma_ok gs t1.keys h sofar it.rule next (omega (arith, longer)))
+    to_next gs h sofar n g = it.account (opened h sofar ∷ gs) g ∙ moves s (state (opened h sofar ∷ gs) t1.keys (after it.rule)) next e (comma_ok gs t1.keys h sofar it.rule next (omega (arith, longer)))
 
     counts : (sofar : Rules) → count sofar ≡ length c → count (sofar then more it.rule none) ≡ length c1
     counts sofar n = omega (arith, longer, count_push sofar it.rule)
@@ -224,9 +236,8 @@ module _ (s : List ℕ) (at depth : ℕ) (c c1 : List ℕ) (t t1 : Entries) (nex
           account = λ gs h sofar n g. to_next gs h sofar n g ∙ j.account gs h (sofar then more it.rule none) (counts sofar n) g ∙ ap (λ (xs : Rules). onto s (close h xs gs t2.keys end) (end + 1)) (then_push sofar it.rule rs);
         }
 
-    pub items_more : (c2 : List ℕ) (t2 : Entries) (r : Result ℕ Refusal) → MatchResult r (λ n. Items s (next + 1) depth c1 c2 t1 t2 n) (λ x. ItemsRefused s (next + 1) depth (length c1) t1.keys x) → MatchResult r (λ n. Items s at depth c c2 t t2 n) (λ x. ItemsRefused s at depth (length c) t.keys x)
-    items_more c2 t2 (Ok n) j = more_read c2 t2 n j
-    items_more c2 t2 (Err x) j = more_refused j
+    pub going_on : (start : ℕ) (t0 : Entries) → Going s start depth t0 at c t → Going s start depth t0 (next + 1) c1 t1
+    going_on start t0 g = record { read = λ c2 t2 end j. g.read c2 t2 end (more_read c2 t2 end j); refused = λ x r. g.refused x (more_refused r) }
 
 -- whole texts
 pub scan_length : (s : List ℕ) → (length s ≡ 0) ⊎ (240 < length s) → scan s ≡ Err TextLength

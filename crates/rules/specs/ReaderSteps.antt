@@ -3,9 +3,9 @@
 --   from s st at          the account of a text from a place on, in a state
 --   onto                  the same after a step, or the fault
 --   Room                  the entries have room for what may still come at this depth
---   Numbered, Ended, Headed, Item, Items         a key's digits were read; the last two letters of a gate's head; the whole
---                                                head; an item; a gate's items up to the ')'
---   Unnumbered, Unended, Unheaded, Refused, ItemsRefused   each of them with a fault instead
+--   Numbered, Passed, Headed, Item, Items        a key's digits were read; these letters of a gate's head; the whole head; an
+--                                                item; a gate's items up to the ')'
+--   Unnumbered, NotPassed, Unheaded, Refused, ItemsRefused   each of them with a fault instead
 use Rattle.std.specs.Prelude.{◌≡◌, ℕ, suc, ◌+◌, ◌*◌, ◌<◌, ◌≤◌, List, [], ◌∷◌, ◌++◌, length, drop, Ok, Err, Result, ◌≢◌}
 use Rattle.refusals.specs.declared.Refusal.{Refusal}
 use Rattle.rules.specs.declared.entry.Entries.{Entries}
@@ -14,7 +14,7 @@ use Rattle.rules.specs.declared.head.Head.TheVariants.{All, Any, Of}
 use Rattle.rules.specs.Grammar.{Rule, Rules, key, none, more, count, text, marked, decimal, keys, keys_of}
 use Rattle.rules.specs.Tables.{size, size_of, rows, rows_of, starts}
 use Rattle.rules.specs.Views.{listing}
-use Rattle.rules.specs.Faults.{Open, opened, State, state, item, number, after, word, onward, close, run, ◌then◌}
+use Rattle.rules.specs.Faults.{Open, opened, State, state, item, number, after, onward, close, run, ◌then◌}
 
 unfoldable pub from : List ℕ → State → ℕ → Result Rule Refusal
 from s st at = run st at (drop at s)
@@ -35,12 +35,12 @@ pub record Numbered (s : List ℕ) (at v end : ℕ) : Type 0 where
 abbrev pub Unnumbered : List ℕ → ℕ → Refusal → Type 0
 Unnumbered s at x = (gs : List Open) (k : ℕ) → from s (state gs k number) at ≡ Err x
 
-pub record Ended (s : List ℕ) (at a b end : ℕ) : Type 0 where
-  pub ends : end ≡ at + 2
-  pub account : (gs : List Open) (k : ℕ) (h : Head) → from s (state gs k (word a (b ∷ []) h)) at ≡ from s (onward gs k [] h) end
+pub record Passed (s : List ℕ) (at : ℕ) (letters : List ℕ) (end : ℕ) : Type 0 where
+  pub ends : end ≡ at + length letters
+  pub account : (gs : List Open) (k : ℕ) (h : Head) → from s (onward gs k letters h) at ≡ from s (onward gs k [] h) end
 
-abbrev pub Unended : List ℕ → ℕ → ℕ → ℕ → Refusal → Type 0
-Unended s at a b x = (gs : List Open) (k : ℕ) (h : Head) → from s (state gs k (word a (b ∷ []) h)) at ≡ Err x
+abbrev pub NotPassed : List ℕ → ℕ → List ℕ → Refusal → Type 0
+NotPassed s at letters x = (gs : List Open) (k : ℕ) (h : Head) → from s (onward gs k letters h) at ≡ Err x
 
 abbrev pub Proper : Head → Type 0
 Proper All = Unit {0}

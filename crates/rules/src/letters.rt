@@ -1,95 +1,111 @@
-// The smallest parts of a rule's text: numbers, and the heads of gates.
-ghost use Rattle.std.specs.Prelude.{◌≡◌, ◌+◌, ◌<◌, ◌≤◌, length, MatchResult, slice_index};
+// The smallest parts of a rule's text: letters, numbers, and the heads of gates.
+ghost use Rattle.std.specs.Prelude.{◌≡◌, ◌+◌, ◌≤◌, ◌&&◌, nat_le, false, length, MatchOption, MatchResult, slice_get, slice_index};
 ghost use Rattle.rules.specs.Faults.{threshold, fits};
-ghost use Rattle.rules.specs.ReaderSteps.{Numbered, Unnumbered, Ended, Unended, Headed, Unheaded, Begins};
+ghost use Rattle.rules.specs.ReaderSteps.{Numbered, Unnumbered, Passed, NotPassed, Headed, Unheaded, Begins};
 
 use crate::head::Head;
 use refusals::Refusal;
 
 const MOST_NUMBER: u32 = 255;
 
-// The letter at a place, and 0 past the end, where no letter fits either.
-pub(crate) fn peek(text: &[u8], at: u8) -> char
-    ensures is { result ≡ slice_index text.now at }
-    ensures inside { 0 < result → at < length text.now }
-{
-    if (at as usize) < text.len() {
-        text[at as usize] as char
-    } else {
-        '\0'
-    }
+// The letters of a text, read from left to right up to a place.
+#[derive(Clone, Copy)]
+pub struct Letters<'a> {
+    pub(crate) text: &'a [u8],
+    pub(crate) at: u8,
 }
 
-// The number that stands here in digits, and the place after it.
-pub(crate) fn number(text: &[u8], at: u8) -> Result<(u8, u8), Refusal>
-    requires { length text.now ≤ 240 }
-    ensures { MatchResult result (λ n. Numbered text.now at n.0 n.1) (λ x. Unnumbered text.now at x) }
-{
-    let first = peek(text, at);
-    match first {
-        '1'..='9' => {
-            let mut value = first as u32 - 48;
-            let mut next = at + 1;
-            loop {
-                let c = peek(text, next);
-                match c {
-                    '0'..='9' => {
-                        value = value * 10 + (c as u32 - 48);
-                        if value > MOST_NUMBER {
-                            return Err(Refusal::KeyNumber(at));
-                        }
-                        next += 1;
-                    }
-                    _ => return Ok((value as u8, next)),
-                }
+impl<'a> Letters<'a> {
+    // The letter that comes next, or none at the end.
+    pub(crate) fn peek(&self) -> Option<char>
+        ensures { result ≡ slice_get self.now.text.now self.now.at }
+    {
+        let byte = self.text.get(self.at as usize)?;
+        Some(*byte as char)
+    }
+
+    // The digit from `least` to `most` that comes next, or none where no such digit does.
+    fn digit(&self, least: char, most: char) -> Option<u8>
+        requires { (48 ≤ least) × (most ≤ 57) }
+        ensures { let next = slice_index self.now.text.now self.now.at in MatchOption result ((nat_le least next && nat_le next most) ≡ false) (λ d. (least ≤ next) × ((next ≤ most) × (next ≡ 48 + d))) }
+    {
+        match self.peek() {
+            Some(letter) if least <= letter && letter <= most => Some(letter as u8 - b'0'),
+            _ => None,
+        }
+    }
+
+    // The number that stands here in digits.
+    pub(crate) fn number(&mut self) -> Result<u8, Refusal>
+        requires { length self.old.text.now ≤ 240 }
+        ensures same { self.new.text ≡ self.old.text }
+        ensures numbered { MatchResult result (λ n. Numbered self.old.text.now self.old.at n self.new.at) (λ x. Unnumbered self.old.text.now self.old.at x) }
+    {
+        let start = self.at;
+        let mut value = match self.digit('0', '9') {
+            Some(0) => return Err(Refusal::KeyNumber(start)),
+            Some(digit) => digit as u32,
+            None => return Err(Refusal::Unexpected(start)),
+        };
+        self.at += 1;
+        while let Some(digit) = self.digit('0', '9') {
+            value = value * 10 + digit as u32;
+            if value > MOST_NUMBER {
+                return Err(Refusal::KeyNumber(start));
+            }
+            self.at += 1;
+        }
+        Ok(value as u8)
+    }
+
+    // Past these letters, which must come next.
+    fn pass(&mut self, letters: &[u8]) -> Result<(), Refusal>
+        requires { length self.old.text.now ≤ 240 }
+        ensures same { self.new.text ≡ self.old.text }
+        ensures passed { MatchResult result (λ _. Passed self.old.text.now self.old.at letters.now self.new.at) (λ x. NotPassed self.old.text.now self.old.at letters.now x) }
+    {
+        for letter in letters {
+            match self.peek() {
+                Some(next) if next == *letter as char => self.at += 1,
+                _ => return Err(Refusal::Unexpected(self.at)),
             }
         }
-        '0' => Err(Refusal::KeyNumber(at)),
-        _ => Err(Refusal::Unexpected(at)),
+        Ok(())
     }
-}
 
-// Past the last two letters of a gate's head.
-fn ending(text: &[u8], at: u8, a: char, b: char) -> Result<u8, Refusal>
-    requires { (length text.now ≤ 240) × ((0 < a) × (0 < b)) }
-    ensures { MatchResult result (λ n. Ended text.now at a b n) (λ x. Unended text.now at a b x) }
-{
-    if peek(text, at) != a {
-        return Err(Refusal::Unexpected(at));
-    }
-    if peek(text, at + 1) != b {
-        return Err(Refusal::Unexpected(at + 1));
-    }
-    Ok(at + 2)
-}
-
-// A gate's head with its bracket, and the place after it.
-pub(crate) fn heading(text: &[u8], at: u8) -> Result<(Head, u8), Refusal>
-    requires short { length text.now ≤ 240 }
-    requires begins { Begins (slice_index text.now at) }
-    ensures { MatchResult result (λ n. Headed text.now at n.0 n.1) (λ x. Unheaded text.now at x) }
-{
-    let first = peek(text, at);
-    match first {
-        'a' => match peek(text, at + 1) {
-            'l' => {
-                let end = ending(text, at + 2, 'l', '(')?;
-                Ok((Head::All, end))
+    // A gate's head with its bracket.
+    pub(crate) fn heading(&mut self) -> Result<Head, Refusal>
+        requires short { length self.old.text.now ≤ 240 }
+        requires begins { Begins (slice_index self.old.text.now self.old.at) }
+        ensures same { self.new.text ≡ self.old.text }
+        ensures headed { MatchResult result (λ h. Headed self.old.text.now self.old.at h self.new.at) (λ x. Unheaded self.old.text.now self.old.at x) }
+    {
+        match self.peek() {
+            Some('a') => {
+                self.at += 1;
+                match self.peek() {
+                    Some('l') => {
+                        self.at += 1;
+                        self.pass(b"l(")?;
+                        Ok(Head::All)
+                    }
+                    Some('n') => {
+                        self.at += 1;
+                        self.pass(b"y(")?;
+                        Ok(Head::Any)
+                    }
+                    _ => Err(Refusal::Unexpected(self.at)),
+                }
             }
-            'n' => {
-                let end = ending(text, at + 2, 'y', '(')?;
-                Ok((Head::Any, end))
-            }
-            _ => Err(Refusal::Unexpected(at + 1)),
-        },
-        '2'..='7' => match peek(text, at + 1) {
-            'o' => {
-                let end = ending(text, at + 2, 'f', '(')?;
-                Ok((Head::Of((first as u32 - 48) as u8), end))
-            }
-            _ => Err(Refusal::Unexpected(at + 1)),
-        },
-        _ => Err(Refusal::GateDigit(at)),
+            _ => match self.digit('2', '7') {
+                Some(wanted) => {
+                    self.at += 1;
+                    self.pass(b"of(")?;
+                    Ok(Head::Of(wanted))
+                }
+                None => Err(Refusal::GateDigit(self.at)),
+            },
+        }
     }
 }
 

@@ -1,11 +1,11 @@
 // Reads a rule's text by recursive descent: an item calls the reader of a gate's items and back, the depth left falling.
-ghost use Rattle.std.specs.Prelude.{◌≡◌, ◌+◌, ◌<◌, ◌≤◌, length, MatchResult, slice_index};
+ghost use Rattle.std.specs.Prelude.{◌≡◌, ◌+◌, ◌<◌, ◌≤◌, [], length, MatchResult, Some, slice_get, slice_index};
 ghost use Rattle.rules.specs.ReaderSteps.{Room, Item, Refused, Items, ItemsRefused, Begins};
 ghost use Rattle.rules.specs.Texts.{rows_in, Read, Faulty};
 ghost use Rattle.rules.specs.Views.{children_of};
 
 use crate::entry::{Children, Entries, Entry};
-use crate::letters::{heading, number, peek};
+use crate::letters::Letters;
 use crate::table::Table;
 use bounded::Row;
 use refusals::Refusal;
@@ -18,94 +18,104 @@ const MOST_ITEMS: usize = 8;
 
 pub(crate) const MOST_DEPTH: u8 = 8;
 
-fn leaf(text: &[u8], at: u8, depth: u8, entries: &mut Entries) -> Result<u8, Refusal>
-    requires short { length text.now ≤ 240 }
-    requires room { Room depth entries.old }
-    requires inside { at < length text.now }
-    requires is { slice_index text.now at ≡ 75 }
-    ensures { MatchResult result (λ n. Item text.now at depth entries.old entries.new n) (λ x. Refused text.now at depth entries.old.keys x) }
-{
-    if depth == 0 {
-        return Err(Refusal::TooDeep(at));
-    }
-    if entries.keys == MOST_KEYS {
-        return Err(Refusal::TooManyKeys(at));
-    }
-    let (key, end) = number(text, at + 1)?;
-    entries.list.push(Entry::Leaf { key, place: at });
-    entries.keys += 1;
-    Ok(end)
+// A rule's text as it is read, and the entries read so far.
+#[derive(Clone, Copy)]
+pub struct Reader<'a> {
+    pub(crate) letters: Letters<'a>,
+    pub(crate) entries: Entries,
 }
 
-#[cycle(gate_item_items)]
-fn item(text: &[u8], at: u8, depth: u8, entries: &mut Entries) -> Result<u8, Refusal>
-    requires short { length text.now ≤ 240 }
-    requires room { Room depth entries.old }
-    ensures { MatchResult result (λ n. Item text.now at depth entries.old entries.new n) (λ x. Refused text.now at depth entries.old.keys x) }
-{
-    match peek(text, at) {
-        'K' => leaf(text, at, depth, entries),
-        'a' | '0'..='9' => gate(text, at, depth, entries),
-        _ => Err(Refusal::Unexpected(at)),
-    }
-}
-
-#[cycle(gate_item_items)]
-fn gate(text: &[u8], at: u8, depth: u8, entries: &mut Entries) -> Result<u8, Refusal>
-    requires short { length text.now ≤ 240 }
-    requires room { Room depth entries.old }
-    requires is { Begins (slice_index text.now at) }
-    ensures { MatchResult result (λ n. Item text.now at depth entries.old entries.new n) (λ x. Refused text.now at depth entries.old.keys x) }
-{
-    if depth == 0 {
-        return Err(Refusal::TooDeep(at));
-    }
-    let (head, inner) = heading(text, at)?;
-    let position = entries.list.len();
-    let mut children = Row::blank(0);
-    // its row is kept free until its children are known
-    entries.list.push(Entry::Leaf { key: 0, place: 0 });
-    let last = items(text, inner, depth - 1, &mut children, entries)?;
-    let count = children.len() as u8;
-    if !head.may_close(count) {
-        return Err(Refusal::TooFewItems(last));
-    }
-    let threshold = head.wanted(count);
-    entries.list.set(
-        position,
-        Entry::Gate {
-            threshold,
-            children,
-        },
-    );
-    Ok(last + 1)
-}
-
-// A gate's items from here on, up to the place of its `)`.
-#[cycle(gate_item_items)]
-fn items(
-    text: &[u8],
-    at: u8,
-    depth: u8,
-    children: &mut Children,
-    entries: &mut Entries,
-) -> Result<u8, Refusal>
-    requires short { length text.now ≤ 240 }
-    requires room { Room depth entries.old }
-    requires less { length (children_of children.old) < 8 }
-    ensures { MatchResult result (λ n. Items text.now at depth (children_of children.old) (children_of children.new) entries.old entries.new n) (λ x. ItemsRefused text.now at depth (length (children_of children.old)) entries.old.keys x) }
-{
-    children.push(entries.list.len() as u8);
-    let next = item(text, at, depth, entries)?;
-    match peek(text, next) {
-        ',' => {
-            if children.len() == MOST_ITEMS {
-                return Err(Refusal::TooManyItems(next));
-            }
-            items(text, next + 1, depth, children, entries)
+impl<'a> Reader<'a> {
+    fn leaf(&mut self, depth: u8) -> Result<(), Refusal>
+        requires short { length self.old.letters.text.now ≤ 240 }
+        requires room { Room depth self.old.entries }
+        requires is { slice_get self.old.letters.text.now self.old.letters.at ≡ Some 75 }
+        ensures same { self.new.letters.text ≡ self.old.letters.text }
+        ensures read { MatchResult result (λ _. Item self.old.letters.text.now self.old.letters.at depth self.old.entries self.new.entries self.new.letters.at) (λ x. Refused self.old.letters.text.now self.old.letters.at depth self.old.entries.keys x) }
+    {
+        let place = self.letters.at;
+        if depth == 0 {
+            return Err(Refusal::TooDeep(place));
         }
-        ')' => Ok(next),
-        _ => Err(Refusal::Unexpected(next)),
+        if self.entries.keys == MOST_KEYS {
+            return Err(Refusal::TooManyKeys(place));
+        }
+        self.letters.at += 1;
+        let key = self.letters.number()?;
+        self.entries.list.push(Entry::Leaf { key, place });
+        self.entries.keys += 1;
+        Ok(())
+    }
+
+    #[cycle(gate_item_items)]
+    fn item(&mut self, depth: u8) -> Result<(), Refusal>
+        requires short { length self.old.letters.text.now ≤ 240 }
+        requires room { Room depth self.old.entries }
+        ensures same { self.new.letters.text ≡ self.old.letters.text }
+        ensures read { MatchResult result (λ _. Item self.old.letters.text.now self.old.letters.at depth self.old.entries self.new.entries self.new.letters.at) (λ x. Refused self.old.letters.text.now self.old.letters.at depth self.old.entries.keys x) }
+    {
+        match self.letters.peek() {
+            Some('K') => self.leaf(depth),
+            Some('a' | '0'..='9') => self.gate(depth),
+            _ => Err(Refusal::Unexpected(self.letters.at)),
+        }
+    }
+
+    #[cycle(gate_item_items)]
+    fn gate(&mut self, depth: u8) -> Result<(), Refusal>
+        requires short { length self.old.letters.text.now ≤ 240 }
+        requires room { Room depth self.old.entries }
+        requires is { Begins (slice_index self.old.letters.text.now self.old.letters.at) }
+        ensures same { self.new.letters.text ≡ self.old.letters.text }
+        ensures read { MatchResult result (λ _. Item self.old.letters.text.now self.old.letters.at depth self.old.entries self.new.entries self.new.letters.at) (λ x. Refused self.old.letters.text.now self.old.letters.at depth self.old.entries.keys x) }
+    {
+        if depth == 0 {
+            return Err(Refusal::TooDeep(self.letters.at));
+        }
+        let head = self.letters.heading()?;
+        let position = self.entries.list.len();
+        // its row is kept free until its children are known
+        self.entries.list.push(Entry::Leaf { key: 0, place: 0 });
+        let children = self.items(depth - 1)?;
+        let count = children.len() as u8;
+        if !head.may_close(count) {
+            return Err(Refusal::TooFewItems(self.letters.at));
+        }
+        self.letters.at += 1;
+        let threshold = head.wanted(count);
+        self.entries.list.set(
+            position,
+            Entry::Gate {
+                threshold,
+                children,
+            },
+        );
+        Ok(())
+    }
+
+    // A gate's items, up to the place of its `)`.
+    #[cycle(gate_item_items)]
+    fn items(&mut self, depth: u8) -> Result<Children, Refusal>
+        requires short { length self.old.letters.text.now ≤ 240 }
+        requires room { Room depth self.old.entries }
+        ensures same { self.new.letters.text ≡ self.old.letters.text }
+        ensures read { MatchResult result (λ children. Items self.old.letters.text.now self.old.letters.at depth [] (children_of children) self.old.entries self.new.entries self.new.letters.at) (λ x. ItemsRefused self.old.letters.text.now self.old.letters.at depth 0 self.old.entries.keys x) }
+    {
+        let mut children = Children::blank(0);
+        loop {
+            children.push(self.entries.list.len() as u8);
+            self.item(depth)?;
+            match self.letters.peek() {
+                Some(',') => {
+                    if children.len() == MOST_ITEMS {
+                        return Err(Refusal::TooManyItems(self.letters.at));
+                    }
+                    self.letters.at += 1;
+                }
+                Some(')') => return Ok(children),
+                _ => return Err(Refusal::Unexpected(self.letters.at)),
+            }
+        }
     }
 }
 
@@ -117,13 +127,19 @@ pub fn read(text: &[u8]) -> Result<Table, Refusal>
     if text.is_empty() || text.len() > MOST_BYTES {
         return Err(Refusal::TextLength);
     }
-    let mut entries = Entries {
-        list: Row::blank(Entry::Leaf { key: 0, place: 0 }),
-        keys: 0,
+    let mut reader = Reader {
+        letters: Letters { text, at: 0 },
+        entries: Entries {
+            list: Row::blank(Entry::Leaf { key: 0, place: 0 }),
+            keys: 0,
+        },
     };
-    let end = item(text, 0, MOST_DEPTH, &mut entries)?;
+    reader.item(MOST_DEPTH)?;
+    let end = reader.letters.at;
     if (end as usize) < text.len() {
         return Err(Refusal::Unexpected(end));
     }
-    Ok(Table { entries })
+    Ok(Table {
+        entries: reader.entries,
+    })
 }

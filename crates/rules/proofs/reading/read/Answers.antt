@@ -16,27 +16,27 @@ item-requires-clause-room c =
     let none = ap length (listing_none new c.blank.ensures.none) in
     record { shallow = omega arith; few = omega arith; room = omega (arith, none) }
 
-pub returns-in_err-end : goal.returns-in_err-end
-returns-in_err-end c =
+pub returns-in_err-item : goal.returns-in_err-item
+returns-in_err-item c =
     let new : Entries = record { list = c.blank.result; keys = 0 } in
     let some = eqb-false (length c.args.text.now) 0 (sym c.is_empty.ensures ∙ c.if-is_empty.false) in
     let p = err_from_is_err_and c.from_residual.result c.from_residual.ensures.1 in
-    rw (p.1, p.2) (read_refused c.args.text.now (omega (arith, some)) (omega arith) new refl c.in_err-end.ensures)
+    rw (p.1, p.2) (read_refused c.args.text.now (omega (arith, some)) (omega arith) new refl c.in_err-item.ensures.read)
 
 pub returns-then-end-text : goal.returns-then-end-text
 returns-then-end-text c =
     let new : Entries = record { list = c.blank.result; keys = 0 } in
     let some = eqb-false (length c.args.text.now) 0 (sym c.is_empty.ensures ∙ c.if-is_empty.false) in
-    read_trailing c.args.text.now (omega (arith, some)) (omega arith) new refl c.item.new.entries c.in_ok-end.end c.in_ok-end.ensures c.if-end-text.true
+    read_trailing c.args.text.now (omega (arith, some)) (omega arith) new refl c.item.new.self.entries c.item.new.self.letters.at c.in_ok-item.ensures.read c.if-end-text.true
 
 pub returns : goal.returns
 returns c =
     let new : Entries = record { list = c.blank.result; keys = 0 } in
     let some = eqb-false (length c.args.text.now) 0 (sym c.is_empty.ensures ∙ c.if-is_empty.false) in
-    read_whole c.args.text.now (omega (arith, some)) (omega arith) new refl c.item.new.entries c.in_ok-end.end c.in_ok-end.ensures c.if-end-text.false (listing_none new c.blank.ensures.none)
+    read_whole c.args.text.now (omega (arith, some)) (omega arith) new refl c.item.new.self.entries c.item.new.self.letters.at c.in_ok-item.ensures.read c.if-end-text.false (listing_none new c.blank.ensures.none)
 
 pub invariant_of-result : goal.invariant_of-result
 invariant_of-result c =
     let new : Entries = record { list = c.blank.result; keys = 0 } in
     let some = eqb-false (length c.args.text.now) 0 (sym c.is_empty.ensures ∙ c.if-is_empty.false) in
-    record { lawful = ∣ read_lawful c.args.text.now (omega (arith, some)) (omega arith) new refl c.item.new.entries c.in_ok-end.end c.in_ok-end.ensures c.if-end-text.false (listing_none new c.blank.ensures.none) ∣₁ }
+    record { lawful = ∣ read_lawful c.args.text.now (omega (arith, some)) (omega arith) new refl c.item.new.self.entries c.item.new.self.letters.at c.in_ok-item.ensures.read c.if-end-text.false (listing_none new c.blank.ensures.none) ∣₁ }
