@@ -3,117 +3,114 @@
 
 #[cfg(test)]
 mod tests {
+    use refusals::Refusal;
     use rules::*;
     use std::test::Fail;
 
-    // Number and place of the refusal, or 0 and 0 for a text that reads.
-    fn told(text: &[u8]) -> (u8, u32) {
-        match read(text) {
-            Ok(_) => (0, 0),
-            Err(refusal) => (refusal.number(), refusal.place()),
+    // Number and place of the refusal, or none for a text that reads.
+    fn told(text: &[u8]) -> Option<(u8, u32)> {
+        let refusal = read(text).err()?;
+        Some((refusal.number(), refusal.place()))
+    }
+
+    // How many entries and leaves a text has.
+    fn counts(text: &[u8]) -> Result<(usize, usize), Refusal> {
+        let table = read(text)?;
+        Ok((table.len(), table.leaf_count()))
+    }
+
+    // A leaf's key and place.
+    fn leaf_at(table: &Table, position: usize) -> Option<(u8, u8)> {
+        match table.entry(position)? {
+            Entry::Leaf { key, place } => Some((key, place)),
+            Entry::Gate { .. } => None,
         }
     }
 
-    // How many entries and leaves a text has, or 0 and 0.
-    fn counts(text: &[u8]) -> (usize, usize) {
-        match read(text) {
-            Ok(table) => (table.len(), table.leaf_count()),
-            Err(_) => (0, 0),
-        }
-    }
-
-    // A leaf's key and place, or 0 and 0.
-    fn leaf_at(table: &Table, position: usize) -> (u8, u8) {
-        match table.entry(position) {
-            Some(Entry::Leaf { key, place }) => (key, place),
-            _ => (0, 0),
-        }
-    }
-
-    // A gate's threshold, number of children, and one child's position, or zeros.
-    fn gate_at(table: &Table, position: usize, child: usize) -> (u8, usize, u8) {
-        let Some(entry) = table.entry(position) else {
-            return (0, 0, 0);
-        };
-        match entry {
-            Entry::Leaf { key: _, place: _ } => (0, 0, 0),
+    // A gate's threshold, number of children, and one child's position.
+    fn gate_at(table: &Table, position: usize, child: usize) -> Option<(u8, usize, u8)> {
+        match table.entry(position)? {
+            Entry::Leaf { .. } => None,
             Entry::Gate {
                 threshold,
                 children,
-            } => (threshold, children.len(), children.get(child).copied().unwrap_or(0)),
+            } => Some((threshold, children.len(), *children.get(child)?)),
         }
     }
 
     #[test]
     fn lengths(rt: HostRuntime) {
-        assert!(rt; told(b"") == (6, 0));
-        assert!(rt; told(&[75; 241]) == (6, 0));
-        assert!(rt; told(&[75; 240]) == (7, 1));
+        assert!(rt; told(b"") == Some((6, 0)));
+        assert!(rt; told(&[b'K'; 241]) == Some((6, 0)));
+        assert!(rt; told(&[b'K'; 240]) == Some((7, 1)));
     }
 
     #[test]
     fn key_numbers(rt: HostRuntime) {
-        assert!(rt; told(b"K1") == (0, 0));
-        assert!(rt; told(b"K255") == (0, 0));
-        assert!(rt; told(b"K256") == (8, 1));
-        assert!(rt; told(b"K01") == (8, 1));
-        assert!(rt; told(b"K0") == (8, 1));
-        assert!(rt; told(b"K1234") == (8, 1));
-        assert!(rt; told(b"K") == (7, 1));
-        assert!(rt; told(b"Kx") == (7, 1));
-        assert!(rt; told(b"any(K1,K300)") == (8, 8));
+        assert!(rt; told(b"K1") == None);
+        assert!(rt; told(b"K255") == None);
+        assert!(rt; told(b"K256") == Some((8, 1)));
+        assert!(rt; told(b"K01") == Some((8, 1)));
+        assert!(rt; told(b"K0") == Some((8, 1)));
+        assert!(rt; told(b"K1234") == Some((8, 1)));
+        assert!(rt; told(b"K") == Some((7, 1)));
+        assert!(rt; told(b"Kx") == Some((7, 1)));
+        assert!(rt; told(b"any(K1,K300)") == Some((8, 8)));
     }
 
     #[test]
     fn heads(rt: HostRuntime) {
-        assert!(rt; told(b"k1") == (7, 0));
-        assert!(rt; told(b"a") == (7, 1));
-        assert!(rt; told(b"al(K1,K2)") == (7, 2));
-        assert!(rt; told(b"any") == (7, 3));
-        assert!(rt; told(b"2xf(K1,K2)") == (7, 1));
-        assert!(rt; told(b"2o(K1,K2)") == (7, 2));
-        assert!(rt; told(b"0of(K1,K2)") == (8, 0));
-        assert!(rt; told(b"1of(K1,K2)") == (8, 0));
-        assert!(rt; told(b"8of(K1,K2)") == (8, 0));
-        assert!(rt; told(b"any(K1,9of(K2,K3))") == (8, 7));
+        assert!(rt; told(b"k1") == Some((7, 0)));
+        assert!(rt; told(b"a") == Some((7, 1)));
+        assert!(rt; told(b"al(K1,K2)") == Some((7, 2)));
+        assert!(rt; told(b"any") == Some((7, 3)));
+        assert!(rt; told(b"2xf(K1,K2)") == Some((7, 1)));
+        assert!(rt; told(b"2o(K1,K2)") == Some((7, 2)));
+        assert!(rt; told(b"0of(K1,K2)") == Some((8, 0)));
+        assert!(rt; told(b"1of(K1,K2)") == Some((8, 0)));
+        assert!(rt; told(b"8of(K1,K2)") == Some((8, 0)));
+        assert!(rt; told(b"any(K1,9of(K2,K3))") == Some((8, 7)));
     }
 
     #[test]
     fn items(rt: HostRuntime) {
-        assert!(rt; told(b"all()") == (7, 4));
-        assert!(rt; told(b"all(K1)") == (9, 6));
-        assert!(rt; told(b"any(K1,any(K2))") == (9, 13));
-        assert!(rt; told(b"any(K1 ,K2)") == (7, 6));
-        assert!(rt; told(b"any(K1,K2") == (7, 9));
-        assert!(rt; told(b"any(K1,K2)K3") == (7, 10));
-        assert!(rt; told(b"2of(K1,K2)") == (9, 9));
-        assert!(rt; told(b"2of(K1,K2,K3)") == (0, 0));
-        assert!(rt; told(b"7of(K1,K1,K1,K1,K1,K1,K1)") == (9, 24));
-        assert!(rt; told(b"7of(K1,K1,K1,K1,K1,K1,K1,K1)") == (0, 0));
-        assert!(rt; told(b"any(K1,K1,K1,K1,K1,K1,K1,K1,x") == (9, 27));
+        assert!(rt; told(b"all()") == Some((7, 4)));
+        assert!(rt; told(b"all(K1)") == Some((9, 6)));
+        assert!(rt; told(b"any(K1,any(K2))") == Some((9, 13)));
+        assert!(rt; told(b"any(K1 ,K2)") == Some((7, 6)));
+        assert!(rt; told(b"any(K1,K2") == Some((7, 9)));
+        assert!(rt; told(b"any(K1,K2)K3") == Some((7, 10)));
+        assert!(rt; told(b"2of(K1,K2)") == Some((9, 9)));
+        assert!(rt; told(b"2of(K1,K2,K3)") == None);
+        assert!(rt; told(b"7of(K1,K1,K1,K1,K1,K1,K1)") == Some((9, 24)));
+        assert!(rt; told(b"7of(K1,K1,K1,K1,K1,K1,K1,K1)") == None);
+        assert!(rt; told(b"any(K1,K1,K1,K1,K1,K1,K1,K1,x") == Some((9, 27)));
     }
 
     // Where an item starts: no item at all, then too deep or too many keys, then the digit.
     #[test]
     fn depths(rt: HostRuntime) {
-        assert!(rt; told(b"any(any(any(any(any(any(any(any(x") == (7, 32));
-        assert!(rt; told(b"any(any(any(any(any(any(any(any(") == (7, 32));
-        assert!(rt; told(b"any(any(any(any(any(any(any(any(K0") == (9, 32));
-        assert!(rt; told(b"any(any(any(any(any(any(any(any(a") == (9, 32));
-        assert!(rt; told(b"any(any(any(any(any(any(any(any(9") == (9, 32));
-        assert!(rt; told(b"any(any(any(any(any(any(any(9") == (8, 28));
+        assert!(rt; told(b"any(any(any(any(any(any(any(any(x") == Some((7, 32)));
+        assert!(rt; told(b"any(any(any(any(any(any(any(any(") == Some((7, 32)));
+        assert!(rt; told(b"any(any(any(any(any(any(any(any(K0") == Some((9, 32)));
+        assert!(rt; told(b"any(any(any(any(any(any(any(any(a") == Some((9, 32)));
+        assert!(rt; told(b"any(any(any(any(any(any(any(any(9") == Some((9, 32)));
+        assert!(rt; told(b"any(any(any(any(any(any(any(9") == Some((8, 28)));
     }
 
     #[test]
     fn seventeenth_keys(rt: HostRuntime) {
         assert!(rt;
-            told(b"any(all(K1,K1,K1,K1,K1,K1,K1,K1),all(K1,K1,K1,K1,K1,K1,K1,K1),x") == (7, 62)
+            told(b"any(all(K1,K1,K1,K1,K1,K1,K1,K1),all(K1,K1,K1,K1,K1,K1,K1,K1),x")
+                == Some((7, 62))
         );
         assert!(rt;
-            told(b"any(all(K1,K1,K1,K1,K1,K1,K1,K1),all(K1,K1,K1,K1,K1,K1,K1,K1),K0") == (9, 62)
+            told(b"any(all(K1,K1,K1,K1,K1,K1,K1,K1),all(K1,K1,K1,K1,K1,K1,K1,K1),K0")
+                == Some((9, 62))
         );
         assert!(rt;
-            told(b"any(all(K1,K1,K1,K1,K1,K1,K1,K1),all(K1,K1,K1,K1,K1,K1,K1,K1),9") == (8, 62)
+            told(b"any(all(K1,K1,K1,K1,K1,K1,K1,K1),all(K1,K1,K1,K1,K1,K1,K1,K1),9")
+                == Some((8, 62))
         );
     }
 
@@ -121,49 +118,44 @@ mod tests {
     #[test]
     fn largest(rt: HostRuntime) {
         assert!(rt;
-            counts(b"any(all(K1,K1,K1,K1,K1,K1,K1,K1),all(K1,K1,K1,K1,K1,K1,K1,K1))") == (19, 16)
+            counts(b"any(all(K1,K1,K1,K1,K1,K1,K1,K1),all(K1,K1,K1,K1,K1,K1,K1,K1))")
+                == Ok((19, 16))
         );
         assert!(rt;
-            counts(b"any(K1,any(K1,any(K1,any(K1,any(K1,any(K1,any(K1,K1)))))))") == (15, 8)
+            counts(b"any(K1,any(K1,any(K1,any(K1,any(K1,any(K1,any(K1,K1)))))))") == Ok((15, 8))
         );
         assert!(rt;
             counts(
                 b"all(all(all(all(K255,K255),all(K255,K255)),all(all(K255,K255),all(K255,K255))),all(all(all(K255,K255),all(K255,K255)),all(all(K255,K255),all(K255,K255))))",
-            ) == (31, 16)
+            ) == Ok((31, 16))
         );
         assert!(rt;
             counts(
                 b"any(K1,any(K1,any(K1,all(all(all(all(K1,K1),all(K1,K1)),all(all(K1,K1),all(K1,K1))),all(all(all(K1,K1),all(K1,K1)),K1)))))",
-            ) == (31, 16)
+            ) == Ok((31, 16))
         );
     }
 
     #[test]
     fn entries(rt: HostRuntime) -> Result<(), Fail> {
-        let Ok(table) = read(b"2of(K7,K22,any(K3,K4))") else {
-            assert!(rt; false);
-            return Ok(());
-        };
+        let table = read(b"2of(K7,K22,any(K3,K4))")?;
         assert!(rt; table.len() == 6 && table.leaf_count() == 4);
-        assert!(rt; gate_at(&table, 0, 0) == (2, 3, 1));
-        assert!(rt; gate_at(&table, 0, 1) == (2, 3, 2));
-        assert!(rt; gate_at(&table, 0, 2) == (2, 3, 3));
-        assert!(rt; leaf_at(&table, 1) == (7, 4));
-        assert!(rt; leaf_at(&table, 2) == (22, 7));
-        assert!(rt; gate_at(&table, 3, 0) == (1, 2, 4));
-        assert!(rt; gate_at(&table, 3, 1) == (1, 2, 5));
-        assert!(rt; leaf_at(&table, 4) == (3, 15));
-        assert!(rt; leaf_at(&table, 5) == (4, 18));
+        assert!(rt; gate_at(&table, 0, 0) == Some((2, 3, 1)));
+        assert!(rt; gate_at(&table, 0, 1) == Some((2, 3, 2)));
+        assert!(rt; gate_at(&table, 0, 2) == Some((2, 3, 3)));
+        assert!(rt; leaf_at(&table, 1) == Some((7, 4)));
+        assert!(rt; leaf_at(&table, 2) == Some((22, 7)));
+        assert!(rt; gate_at(&table, 3, 0) == Some((1, 2, 4)));
+        assert!(rt; gate_at(&table, 3, 1) == Some((1, 2, 5)));
+        assert!(rt; leaf_at(&table, 4) == Some((3, 15)));
+        assert!(rt; leaf_at(&table, 5) == Some((4, 18)));
         assert!(rt; table.entry(6).is_none());
         Ok(())
     }
 
     #[test]
     fn written_again(rt: HostRuntime) -> Result<(), Fail> {
-        let Ok(table) = read(b"2of(K7,K22,any(K3,K4))") else {
-            assert!(rt; false);
-            return Ok(());
-        };
+        let table = read(b"2of(K7,K22,any(K3,K4))")?;
         assert!(rt; text_length(&table) == 22);
         let mut short = [7u8; 21];
         let refused = write(&table, &mut short);
