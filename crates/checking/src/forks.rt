@@ -1,24 +1,25 @@
 // Forks: two transcripts with equal commitments and different challenges, and the keys that they give.
-ghost use Rattle.std.specs.Prelude.{◌≡◌, ℕ, ◌<◌, T, List, length, get_or, ◌≢◌, slice_index_or};
+ghost use Rattle.std.specs.Prelude.{◌≡◌, ℕ, ◌<◌, T, length, ◌≢◌, slice_index_or};
 ghost use Rattle.refusals.specs.Checks.{told};
 ghost use Rattle.fields.specs.Scalars.{scalar};
 ghost use Rattle.kinds.specs.Kinds.{zeros};
 ghost use Rattle.kinds.specs.declared.image.Image.{Image as FourWords};
 ghost use Rattle.refusals.specs.declared.Refusal.TheVariants.{CommitmentsDiffer};
-ghost use Rattle.releases.specs.Entries.{leaves as leaf_entries, LeafAt, number};
-ghost use Rattle.releases.specs.Transcripts.{is_scalar, IsKey};
+ghost use Rattle.releases.specs.Entries.{leaves as leaf_entries, LeafAt};
+ghost use Rattle.releases.specs.Transcripts.{is_scalar, IsKey, challenge as challenge_at, response as response_at};
 ghost use Rattle.releases.specs.Keys.{scale_key};
 ghost use Rattle.releases.specs.Forks.{Forked};
 ghost use Rattle.releases.specs.Checks.{Clear, Each};
-ghost use Rattle.releases.specs.Theorems.{Setting};
 ghost use Rattle.settings.specs.Rules.{rule_in};
-ghost use Rattle.checking.specs.Checkings.{transcript as of_slices, ForkChecked, ForkedKey};
+ghost use Rattle.transcripts.specs.Transcripts.{transcript_in};
+ghost use Rattle.checking.specs.Checkings.{ForkChecked, ForkedKey};
 
-use crate::equations::same_image;
+use crate::checker::Checker;
 use fields::{Field, Scalar, Scalars};
 use kinds::{Image, LeafKinds};
 use refusals::Refusal;
-use settings::{Node, Rule};
+use settings::Rule;
+use transcripts::Transcript;
 
 // Both scalars of a pair divided by one that is not 0: one division, by which both are multiplied.
 fn divide_pair(field: &Scalars, pair: (Scalar, Scalar), by: Scalar) -> (Scalar, Scalar)
@@ -54,32 +55,32 @@ fn fork_key(
     Some(divide_pair(field, (first, second), by))
 }
 
-// Writes the keys that two transcripts give: at each leaf whose challenges differ the quotient of the responses by them, else none.
-pub fn fork_keys<S: LeafKinds>(
-    set: &S,
-    rule: &Rule,
-    challenges: &[Scalar],
-    other_challenges: &[Scalar],
-    responses: &[(Scalar, Scalar)],
-    other_responses: &[(Scalar, Scalar)],
-    keys: &mut [Option<(Scalar, Scalar)>],
-)
-    requires setting { Setting (S.LeafKinds.meaning set.now) (rule_in rule.now) }
-    requires long { let n = length (rule_in rule.now) in let l = leaf_entries (rule_in rule.now) in (length challenges.now ≡ n) × ((length other_challenges.now ≡ n) × ((length responses.now ≡ l) × ((length other_responses.now ≡ l) × (length keys.old ≡ l)))) }
-    requires scalars { let m = S.LeafKinds.meaning set.now in ((i : ℕ) → i < length (rule_in rule.now) → T (is_scalar m (slice_index_or challenges.now i (scalar 0))) × T (is_scalar m (get_or other_challenges.now i (scalar 0)))) }
-    requires answers { let m = S.LeafKinds.meaning set.now in let rows = rule_in rule.now in ((i kind : ℕ) (s : FourWords) → LeafAt rows i kind s → IsKey m kind (slice_index_or responses.now (number rows i) (scalar 0, scalar 0)) × IsKey m kind (get_or other_responses.now (number rows i) (scalar 0, scalar 0))) }
-    ensures { (xs ys : List FourWords) → Forked (S.LeafKinds.meaning set.now).q (rule_in rule.now) (of_slices challenges.now xs responses.now) (of_slices other_challenges.now ys other_responses.now) keys.new }
-{
-    let field = Scalars::known(set.order());
-    let mut leaf = 0;
-    for i in 0..rule.len() {
-        let Some(node) = rule.node(i) else {
-            return;
-        };
-        if let Node::Leaf { .. } = node {
-            let pair = (challenges[i], other_challenges[i]);
-            keys[leaf] = fork_key(&field, pair, responses[leaf], other_responses[leaf]);
-            leaf += 1;
+impl<S: LeafKinds> Checker<'_, S> {
+    // Writes the keys that two transcripts give: at each leaf whose challenges differ the quotient of the responses by them, else none.
+    pub fn fork_keys(
+        &self,
+        transcript: &Transcript,
+        other: &Transcript,
+        keys: &mut [Option<(Scalar, Scalar)>],
+    )
+        requires long { let n = length (rule_in self.now.rule.now) in let t = transcript_in transcript.now in let o = transcript_in other.now in (length t.challenges ≡ n) × (length o.challenges ≡ n) }
+        requires responses { let l = leaf_entries (rule_in self.now.rule.now) in let t = transcript_in transcript.now in let o = transcript_in other.now in (length t.responses ≡ l) × ((length o.responses ≡ l) × (length keys.old ≡ l)) }
+        requires scalars { let m = S.LeafKinds.meaning self.now.set.now in ((i : ℕ) → i < length (rule_in self.now.rule.now) → T (is_scalar m (challenge_at (transcript_in transcript.now) i)) × T (is_scalar m (challenge_at (transcript_in other.now) i))) }
+        requires answers { let m = S.LeafKinds.meaning self.now.set.now in let rule = rule_in self.now.rule.now in ((i kind : ℕ) (s : FourWords) → LeafAt rule i kind s → IsKey m kind (response_at rule (transcript_in transcript.now) i) × IsKey m kind (response_at rule (transcript_in other.now) i)) }
+        ensures { Forked (S.LeafKinds.meaning self.now.set.now).q (rule_in self.now.rule.now) (transcript_in transcript.now) (transcript_in other.now) keys.new }
+    {
+        let field = Scalars::known(self.set.order());
+        let leaves = self.rule.leaves();
+        for (number, leaf) in leaves.iter().enumerate() {
+            keys[number] = fork_key(
+                &field,
+                (
+                    transcript.challenges[leaf.entry],
+                    other.challenges[leaf.entry],
+                ),
+                transcript.responses[number],
+                other.responses[number],
+            );
         }
     }
 }
@@ -89,27 +90,20 @@ fn compare_commitments(rule: &Rule, commitments: &[Image], others: &[Image]) -> 
     requires { let l = leaf_entries (rule_in rule.now) in (length commitments.now ≡ l) × (length others.now ≡ l) }
     ensures { Each (leaf_entries (rule_in rule.now)) (λ l. slice_index_or commitments.now l zeros ≡ slice_index_or others.now l zeros) CommitmentsDiffer Clear (told result) }
 {
-    for leaf in 0..rule.leaf_count() {
-        if !same_image(&commitments[leaf], &others[leaf]) {
-            return Err(Refusal::CommitmentsDiffer(leaf as u8));
-        }
+    match commitments.iter().zip(others).position(|(a, b)| a != b) {
+        Some(leaf) => Err(Refusal::CommitmentsDiffer(leaf as u8)),
+        None => Ok(()),
     }
-    Ok(())
 }
 
 // Refuses transcripts that are no fork: the first leaf at which their commitments differ, else challenges that are equal.
-pub fn check_fork(
-    rule: &Rule,
-    commitments: &[Image],
-    other_commitments: &[Image],
-    challenges: &[Scalar],
-    other_challenges: &[Scalar],
-) -> Result<(), Refusal>
-    requires long { let l = leaf_entries (rule_in rule.now) in (length commitments.now ≡ l) × ((length other_commitments.now ≡ l) × ((0 < length challenges.now) × (0 < length other_challenges.now))) }
-    ensures { ForkChecked (leaf_entries (rule_in rule.now)) commitments.now other_commitments.now challenges.now other_challenges.now Clear (told result) }
+pub fn check_fork(rule: &Rule, transcript: &Transcript, other: &Transcript) -> Result<(), Refusal>
+    requires commitments { let l = leaf_entries (rule_in rule.now) in (length (transcript_in transcript.now).commitments ≡ l) × (length (transcript_in other.now).commitments ≡ l) }
+    requires challenges { (0 < length (transcript_in transcript.now).challenges) × (0 < length (transcript_in other.now).challenges) }
+    ensures { let t = transcript_in transcript.now in let o = transcript_in other.now in ForkChecked (leaf_entries (rule_in rule.now)) t.commitments o.commitments t.challenges o.challenges Clear (told result) }
 {
-    compare_commitments(rule, commitments, other_commitments)?;
-    if challenges[0].value() == other_challenges[0].value() {
+    compare_commitments(rule, transcript.commitments, other.commitments)?;
+    if transcript.challenges[0] == other.challenges[0] {
         return Err(Refusal::ChallengesEqual);
     }
     Ok(())

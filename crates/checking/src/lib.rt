@@ -1,14 +1,13 @@
 // Checking transcripts: whether one is acceptable for a rule, and the keys that two of them give.
 #![tactic(auto)]
 
+mod checker;
 mod equations;
 mod forks;
 mod gates;
 mod transcript;
 mod words;
 
-pub use equations::check_equations;
-pub use forks::{check_fork, fork_keys};
-pub use gates::check_gates;
-pub use transcript::check_transcript;
+pub use checker::Checker;
+pub use forks::check_fork;
 pub use words::check_words;

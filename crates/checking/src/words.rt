@@ -2,15 +2,17 @@
 ghost use Rattle.std.specs.Prelude.{◌≡◌, ◌≤◌, length, if◌then◌else◌};
 ghost use Rattle.refusals.specs.Checks.{told};
 ghost use Rattle.releases.specs.Entries.{leaves as leaf_entries};
-ghost use Rattle.releases.specs.Transcripts.{is_scalar};
+ghost use Rattle.releases.specs.Transcripts.{is_scalar, Shaped};
 ghost use Rattle.releases.specs.Checks.{Clear};
 ghost use Rattle.settings.specs.Rules.{rule_in};
-ghost use Rattle.checking.specs.Checkings.{transcript as of_slices, ScalarsChecked, ImagesChecked, KeysChecked, WordsChecked};
+ghost use Rattle.transcripts.specs.Transcripts.{transcript_in};
+ghost use Rattle.checking.specs.Checkings.{ScalarsChecked, ImagesChecked, KeysChecked, WordsChecked};
 
 use fields::Scalar;
 use kinds::{Image, LeafKinds, is_key};
 use refusals::Refusal;
-use settings::{Node, Rule};
+use settings::Rule;
+use transcripts::Transcript;
 
 // Refuses the first challenge that is not below q.
 fn check_challenges<S: LeafKinds>(set: &S, challenges: &[Scalar]) -> Result<(), Refusal>
@@ -18,12 +20,10 @@ fn check_challenges<S: LeafKinds>(set: &S, challenges: &[Scalar]) -> Result<(), 
     ensures { ScalarsChecked (S.LeafKinds.meaning set.now) challenges.now (told result) }
 {
     let q = set.order();
-    for i in 0..challenges.len() {
-        if challenges[i].value() >= q {
-            return Err(Refusal::UnfitWord(i as u8));
-        }
+    match challenges.iter().position(|c| c.value() >= q) {
+        Some(i) => Err(Refusal::UnfitWord(i as u8)),
+        None => Ok(()),
     }
-    Ok(())
 }
 
 // Refuses the first commitment that is no image of its leaf's kind.
@@ -35,16 +35,10 @@ fn check_commitments<S: LeafKinds>(
     requires { length commitments.now ≡ leaf_entries (rule_in rule.now) }
     ensures { ImagesChecked (S.LeafKinds.meaning set.now) (rule_in rule.now) commitments.now (told result) }
 {
-    let mut leaf = 0;
-    for i in 0..rule.len() {
-        let Some(node) = rule.node(i) else {
-            return Ok(());
-        };
-        if let Node::Leaf { kind, .. } = node {
-            if !set.is_image(kind, &commitments[leaf]) {
-                return Err(Refusal::UnfitWord((rule.len() + 4 * leaf) as u8));
-            }
-            leaf += 1;
+    let leaves = rule.leaves();
+    for (number, leaf) in leaves.iter().enumerate() {
+        if !set.is_image(leaf.kind, &commitments[number]) {
+            return Err(Refusal::UnfitWord((rule.len() + 4 * number) as u8));
         }
     }
     Ok(())
@@ -71,18 +65,12 @@ fn check_responses<S: LeafKinds>(
     ensures { KeysChecked (S.LeafKinds.meaning set.now) (rule_in rule.now) responses.now (told result) }
 {
     let first = rule.len() + 4 * rule.leaf_count();
-    let mut leaf = 0;
-    for i in 0..rule.len() {
-        let Some(node) = rule.node(i) else {
-            return Ok(());
-        };
-        if let Node::Leaf { kind, .. } = node {
-            let response = responses[leaf];
-            if !is_key(set, kind, response) {
-                let word = first + 2 * leaf + unfit_part(set, response);
-                return Err(Refusal::UnfitWord(word as u8));
-            }
-            leaf += 1;
+    let leaves = rule.leaves();
+    for (number, leaf) in leaves.iter().enumerate() {
+        let response = responses[number];
+        if !is_key(set, leaf.kind, response) {
+            let word = first + 2 * number + unfit_part(set, response);
+            return Err(Refusal::UnfitWord(word as u8));
         }
     }
     Ok(())
@@ -93,14 +81,12 @@ fn check_responses<S: LeafKinds>(
 pub fn check_words<S: LeafKinds>(
     set: &S,
     rule: &Rule,
-    challenges: &[Scalar],
-    commitments: &[Image],
-    responses: &[(Scalar, Scalar)],
+    transcript: &Transcript,
 ) -> Result<(), Refusal>
-    requires { (length challenges.now ≡ length (rule_in rule.now)) × ((length commitments.now ≡ leaf_entries (rule_in rule.now)) × (length responses.now ≡ leaf_entries (rule_in rule.now))) }
-    ensures { WordsChecked (S.LeafKinds.meaning set.now) (rule_in rule.now) (of_slices challenges.now commitments.now responses.now) Clear (told result) }
+    requires { Shaped (rule_in rule.now) (transcript_in transcript.now) }
+    ensures { WordsChecked (S.LeafKinds.meaning set.now) (rule_in rule.now) (transcript_in transcript.now) Clear (told result) }
 {
-    check_challenges(set, challenges)?;
-    check_commitments(set, rule, commitments)?;
-    check_responses(set, rule, responses)
+    check_challenges(set, transcript.challenges)?;
+    check_commitments(set, rule, transcript.commitments)?;
+    check_responses(set, rule, transcript.responses)
 }

@@ -1,60 +1,63 @@
--- What a list of nodes holds, and going through the rows of a table with the lines of its leaves.
-use Rattle.std.proofs.Common.{◌≡◌, ℕ, zero, suc, ◌+◌, ◌<◌, ◌≤◌, List, [], ◌∷◌, length, get_or, take, drop, Some, None, Option, sym, refl, ap, ◌∙◌, ap₂, arith, MatchOption, option_copied, Bor}
-use Rattle.std.specs.Slice.{IsItemAt}
-use Rattle.rules.proofs.Lists.{found}
+-- What the nodes of a rule hold, and going through the rows of a table with the lines of its leaves.
+use Rattle.std.proofs.Common.{◌≡◌, ℕ, zero, suc, ◌+◌, ◌<◌, ◌≤◌, List, [], ◌∷◌, ◌++◌, map, length, get_or, drop, Some, None, Option, sym, refl, ap, ◌∙◌, arith, append_assoc, append-nil, MatchOption, IfSome, IsSome, Iter, subst, Bor, length-take}
 use mathlib.Core.Option.{some}
 use lib.ListN.{get_elem?}
-use Rattle.std.proofs.lemmas.List.{length-map, length-take-le, get_or-map, get_or-take}
+use Rattle.std.specs.Option.{option_copied}
+use Rattle.std.specs.Slice.Iter.{iter_rest, iter_steps}
+use Rattle.std.proofs.lemmas.List.{length-map, get_or-map, map_push, drop_all}
+use Rattle.bounded.specs.Rows.{items}
 use Rattle.rules.specs.Tables.{Row, leaf as key_row, node as gate_row, leaves as keys}
+use Rattle.rules.proofs.Lists.{found}
 use Rattle.rings.specs.declared.line.Line.{Line}
-use Rattle.releases.specs.Entries.{gate, entries, leaves}
-use Rattle.bounded.specs.declared.row.Row.{Row as Bounded}
-use Rattle.rules.specs.Views.{children_of}
+use Rattle.rings.specs.Pairings.{line_of, missing_at, with_line, pair_refusal, paired}
+use Rattle.releases.proofs.Checking.{not_Some}
+use Rattle.releases.specs.Entries.{Entry, entries, leaves}
 use Rattle.settings.specs.declared.node.Node.{Node}
-use Rattle.settings.specs.declared.node.Node.TheVariants.{Gate}
-use Rattle.settings.specs.declared.node.Nodes.{Nodes}
-use Rattle.settings.specs.Nodes.{entry_of, listing}
-use Rattle.settings.specs.Buildings.{leaf_of}
+use Rattle.settings.specs.declared.rule.Rule.{Rule}
+use Rattle.settings.specs.Nodes.{entry_of}
+use Rattle.settings.specs.Rules.{rule_in}
 
-pub listing_length : (t : Nodes) → length (listing t) ≡ t.len
-unfolding listing
-listing_length t = length-map (take t.len t.slots) _ ∙ length-take-le t.len t.slots (omega arith)
+pub rule_short : (r : Rule) → length (rule_in r) ≤ 31
+rule_short r = let nodes = r.nodes in omega (arith, length-map (items nodes) entry_of, length-take nodes.len nodes.slots, nodes.within)
 
-pub listing_at : (t : Nodes) (i : ℕ) (d : Node) → i < t.len → get_or (listing t) i (entry_of d) ≡ entry_of (get_or t.slots i d)
-unfolding listing
-listing_at t i d l =
-    let long : i < length (take t.len t.slots) = omega (arith, length-take-le t.len t.slots (omega arith)) in
-    get_or-map entry_of (take t.len t.slots) i d (entry_of d) long ∙ ap entry_of (get_or-take t.len t.slots i d l)
+-- what a look-up in a list finds stands at that place in what the list is mapped to
+pub looked_up : {A B : Type 0} (f : A → B) (xs : List A) (i : ℕ) (r : Option (Bor A)) → IfSome r (λ x. x.now ≡ get_or xs i x.now) → MatchOption r (length xs ≤ i) (λ x. i < length xs)
+    → MatchOption (option_copied r) (length (map f xs) ≤ i) (λ n. get_elem? (map f xs) i ≡ some (f n))
+looked_up f xs i None is l = omega (arith, length-map xs f)
+looked_up f xs i (Some x) is l = found (map f xs) i (f x.now) (omega (arith, length-map xs f)) ∙ ap some (get_or-map f xs i x.now (f x.now) l ∙ ap f (sym is))
 
--- a list from i on begins with what stands at i
-pub dropped : {A : Type 0} (xs : List A) (i : ℕ) (x : A) → get_elem? xs i ≡ some x → drop i xs ≡ x ∷ drop (i + 1) xs
-dropped [] i x h = absurd (let z : ◌≡◌ {A = ℕ} 0 1 = cc in let w = z in omega arith)
-dropped (y ∷ xs) zero x h = let s : y ≡ x = cc in ap (λ z. z ∷ xs) s
-dropped (y ∷ xs) (suc i) x h =
-    let s : suc i + 1 ≡ suc (i + 1) = omega arith in
-    dropped xs i x h ∙ ap (λ j. x ∷ drop j (y ∷ xs)) (sym s)
+-- the entry at the place of a node
+pub node_stands : (nodes : List Node) (rule : List Entry) → map entry_of nodes ≡ rule → (i : ℕ) (n : Node) → i < length nodes → n ≡ get_or nodes i n → get_elem? rule i ≡ some (entry_of n)
+node_stands nodes rule e i n l is =
+    ap (λ r. get_elem? r i) (sym e) ∙ found (map entry_of nodes) i (entry_of n) (omega (arith, length-map nodes entry_of))
+    ∙ ap some (get_or-map entry_of nodes i n (entry_of n) l ∙ ap entry_of (sym is))
 
-pub none_left : {A : Type 0} (xs : List A) (i : ℕ) → length xs ≤ i → drop i xs ≡ []
-none_left [] zero h = refl
-none_left [] (suc i) h = refl
-none_left (x ∷ xs) zero h = absurd (omega arith)
-none_left (x ∷ xs) (suc i) h = none_left xs i (omega arith)
+-- what a list is mapped to goes on with the image of what stands at i
+pub drop-map_next : {A B : Type 0} (f : A → B) (xs : List A) (i : ℕ) (x : A) → i < length xs → x ≡ get_or xs i x → drop i (map f xs) ≡ f x ∷ drop (i + 1) (map f xs)
+drop-map_next f [] i x l is = absurd (omega arith)
+drop-map_next f (y ∷ xs) zero x l is = ap (λ z. f z ∷ map f xs) (sym is)
+drop-map_next f (y ∷ xs) (suc i) x l is =
+    let s : suc (i + 1) ≡ suc i + 1 = omega arith in
+    drop-map_next f xs i x (omega arith) is ∙ ap (λ j. f x ∷ drop j (map f (y ∷ xs))) s
 
-module _ (rows : List Row) (lines : List Line) (i j : ℕ) where
-  pub gate_step : (k : ℕ) (cs : List ℕ) → get_elem? rows i ≡ some (gate_row k cs) → entries (drop i rows) (drop j lines) ≡ gate k cs ∷ entries (drop (i + 1) rows) (drop j lines)
-  gate_step k cs h = ap (λ r. entries r (drop j lines)) (dropped rows i (gate_row k cs) h)
+-- one more node, and the entries after it
+pub pushed : (nodes : List Node) (n : Node) (rest now all : List Entry) → now ≡ entry_of n ∷ rest → map entry_of nodes ++ now ≡ all → map entry_of (nodes ++ n ∷ []) ++ rest ≡ all
+pushed nodes n rest now all is so_far =
+    ap (λ r. r ++ rest) (map_push entry_of nodes n) ∙ append_assoc (map entry_of nodes) (entry_of n ∷ []) rest ∙ ap (λ r. map entry_of nodes ++ r) (sym is) ∙ so_far
 
-  pub leaf_step : (n b : ℕ) → get_elem? rows i ≡ some (key_row n b) → (o : Option Line) → MatchOption o (length lines ≤ j) (λ l. get_elem? lines j ≡ some l)
-      → entries (drop i rows) (drop j lines) ≡ leaf_of o ∷ entries (drop (i + 1) rows) (drop (j + 1) lines)
-  leaf_step n b h None past =
-      ap₂ entries (dropped rows i (key_row n b) h) (none_left lines j past)
-      ∙ ap (λ ls. leaf_of None ∷ entries (drop (i + 1) rows) ls) (sym (none_left lines (j + 1) (omega arith)))
-  leaf_step n b h (Some l) at = ap₂ entries (dropped rows i (key_row n b) h) (dropped lines j l at)
+-- at the end every row has its entry
+pub whole : (nodes : List Node) (rows : List Row) (i : ℕ) (left : List Line) (all : List Entry) → length rows ≤ i → map entry_of nodes ++ entries (drop i rows) left ≡ all → map entry_of nodes ≡ all
+whole nodes rows i left all past so_far =
+    sym (append-nil (map entry_of nodes)) ∙ ap (λ r. map entry_of nodes ++ entries r left) (sym (drop_all i rows past)) ∙ so_far
 
--- the line at a place, copied
-pub line_at_place : (xs ls : List Line) (i : ℕ) (r : Option (Bor Line)) (o : Option Line) → IsItemAt xs i r → xs ≡ ls → o ≡ option_copied r → MatchOption o (length ls ≤ i) (λ l. get_elem? ls i ≡ some l)
-line_at_place xs ls i None o h e f = rw f (omega (arith, h.3, ap length e))
-line_at_place xs ls i (Some b) o h e f = rw f (ap (λ zs. get_elem? zs i) (sym e) ∙ found xs i b.now h.3.0 ∙ ap some (sym h.1))
+-- an iterator that has lines left gives the first of them
+module _ (before after : Iter Line) where
+  pub some_left : (r : Option (Bor Line)) → iter_steps before r after → 0 < length (iter_rest before) → IsSome r
+  some_left None h l = absurd (omega (arith, h.0))
+  some_left (Some x) h l = refl
+
+  pub next_line : (r : Option (Bor Line)) (x : Bor Line) → iter_steps before r after → r ≡ Some x → iter_rest before ≡ x.now ∷ iter_rest after
+  next_line r x h e = subst (λ r. iter_steps before r after) e h
 
 pub leaves_kept : (rows : List Row) (lines : List Line) → leaves (entries rows lines) ≡ keys rows
 leaves_kept [] lines = refl
@@ -62,6 +65,12 @@ leaves_kept (key_row n b ∷ rows) [] = let r = leaves_kept rows [] in omega ari
 leaves_kept (key_row n b ∷ rows) (l ∷ lines) = let r = leaves_kept rows lines in omega arith
 leaves_kept (gate_row k cs ∷ rows) lines = let r = leaves_kept rows lines in omega arith
 
-pub gate_entry : (k : ℕ) (c : Bounded ℕ 8) → entry_of (Gate k c) ≡ gate k (children_of c)
-unfolding entry_of
-gate_entry k c = refl
+-- where every leaf has a line, there is one line to each
+pub length-paired : (rows : List Row) (ring : List Line) → pair_refusal rows ring ≡ None → length (paired rows ring) ≡ keys rows
+length-paired [] ring h = refl
+length-paired (gate_row k cs ∷ rows) ring h = length-paired rows ring h
+length-paired (key_row n b ∷ rows) ring h = go (length-paired rows ring) (line_of ring n) h
+  where
+    go : (pair_refusal rows ring ≡ None → length (paired rows ring) ≡ keys rows) → (o : Option Line) → missing_at o b (pair_refusal rows ring) ≡ None → length (with_line o (paired rows ring)) ≡ suc (keys rows)
+    go rest None e = not_Some e
+    go rest (Some l) e = ap suc (rest e)

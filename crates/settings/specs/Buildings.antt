@@ -1,21 +1,15 @@
 -- Building: a rule's text is read, then its ring, then they are paired.
---   leaf_of o                the entry of a leaf with its line; a leaf without a line has no kind
 --   Built m text ring es     the text is legal, the ring is whole, every key of the rule stands in it; es are the rule's entries with their lines
 --   Unbuilt m text ring x    x is the first refusal: of the text, else of the ring, else of the pairing
-use Rattle.std.specs.Prelude.{◌≡◌, ℕ, ◌⊎◌, List, Some, None, Option}
+use Rattle.std.specs.Prelude.{◌≡◌, ℕ, ◌⊎◌, List, Some, None}
 use Rattle.refusals.specs.declared.Refusal.{Refusal}
 use Rattle.refusals.specs.Checks.{or_else}
-use Rattle.kinds.specs.Kinds.{KindModel, zeros}
+use Rattle.kinds.specs.Kinds.{KindModel}
 use Rattle.rules.specs.Tables.{Row}
 use Rattle.rules.specs.Texts.{Means, Faulty}
 use Rattle.rings.specs.Rings.{ring_refusal, ring_lines}
 use Rattle.rings.specs.Pairings.{pair_refusal, paired}
-use Rattle.rings.specs.declared.line.Line.{Line}
-use Rattle.releases.specs.Entries.{Entry, leaf, entries}
-
-abbrev pub leaf_of : Option Line → Entry
-leaf_of None = leaf 0 zeros
-leaf_of (Some l) = leaf l.kind l.image
+use Rattle.releases.specs.Entries.{Entry, entries}
 
 pub record Built (m : KindModel) (text ring : List ℕ) (es : List Entry) : Type 0 where
   pub rows : List Row

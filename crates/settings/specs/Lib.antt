@@ -1,3 +1,4 @@
 pub mod Nodes
 pub mod Rules
+pub mod Leaves
 pub mod Buildings

@@ -1,69 +1,44 @@
 // Building a rule with its ring from a text and a ring's bytes.
-ghost use Rattle.std.specs.Prelude.{◌≡◌, IfOk, MatchResult};
+ghost use Rattle.std.specs.Prelude.{◌≡◌, length, IfOk, MatchResult};
+ghost use Rattle.rules.specs.Tables.{leaves as keys};
 ghost use Rattle.rules.specs.Texts.{rows_in};
-ghost use Rattle.rings.specs.Rings.{lines_in};
 ghost use Rattle.releases.specs.Entries.{entries};
 ghost use Rattle.releases.specs.Theorems.{Setting};
-ghost use Rattle.settings.specs.Nodes.{entry_of, listing};
 ghost use Rattle.settings.specs.Rules.{rule_in};
-ghost use Rattle.settings.specs.Buildings.{leaf_of, Built, Unbuilt};
+ghost use Rattle.settings.specs.Buildings.{Built, Unbuilt};
 
-use crate::node::{Node, Nodes};
+use crate::node::Node;
 use crate::rule::Rule;
+use bounded::Row;
 use kinds::{Image, LeafKinds};
 use refusals::Refusal;
-use rings::{Line, Lines, pair, read_ring};
+use rings::{Line, pair, read_ring};
 use rules::{Entry, Table, read};
 
-// The node of a leaf with its line; a leaf without a line has no kind.
-fn leaf_node(line: Option<Line>) -> Node
-    ensures { entry_of result ≡ leaf_of line }
+// A rule of a table, the leaves with these lines in order, one to each.
+fn with_lines(table: &Table, lines: &[Line]) -> Rule
+    requires { length lines.now ≡ keys (rows_in table.now) }
+    ensures { rule_in result ≡ entries (rows_in table.now) lines.now }
 {
-    match line {
-        Some(line) => Node::Leaf {
-            kind: line.kind,
-            statement: line.image,
-        },
-        None => Node::Leaf {
-            kind: 0,
-            statement: Image((0, 0), (0, 0)),
-        },
-    }
-}
-
-// The entries of a table, the leaves with these lines in order.
-fn list_nodes(table: &Table, lines: &Lines) -> Nodes
-    ensures { listing result ≡ entries (rows_in table.now) (lines_in lines.now) }
-{
-    let mut nodes = Nodes::new();
-    let mut leaf = 0;
-    for i in 0..table.len() {
-        let Some(entry) = table.entry(i) else {
-            return nodes;
-        };
-        match entry {
-            Entry::Leaf { .. } => {
-                nodes.push(leaf_node(lines.get(leaf).copied()));
-                leaf += 1;
-            }
+    let mut nodes = Row::blank(Node::Leaf {
+        kind: 0,
+        statement: Image::ZEROS,
+    });
+    let mut lines = lines.iter();
+    for entry in table.entries() {
+        nodes.push(match *entry {
+            Entry::Leaf { .. } => Node::from(*lines.next().unwrap()),
             Entry::Gate {
                 threshold,
                 children,
-            } => nodes.push(Node::Gate {
+            } => Node::Gate {
                 threshold,
                 children,
-            }),
-        }
+            },
+        });
     }
-    nodes
-}
-
-// A rule of a table, with the lines of its leaves.
-fn with_lines(table: &Table, lines: &Lines) -> Rule
-    ensures { rule_in result ≡ entries (rows_in table.now) (lines_in lines.now) }
-{
     Rule {
-        nodes: list_nodes(table, lines),
+        nodes,
         leaves: table.leaf_count(),
     }
 }

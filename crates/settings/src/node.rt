@@ -1,7 +1,9 @@
 // An entry of a rule with its ring: a leaf with the kind and the statement of its line, or a gate.
-ghost use Rattle.std.specs.Prelude.{◌≡◌, ◌≤◌, length};
+ghost use Rattle.std.specs.Prelude.{◌≡◌};
+ghost use Rattle.releases.specs.Entries.{leaf};
 
 use kinds::Image;
+use rings::Line;
 use rules::Children;
 
 #[derive(Clone, Copy)]
@@ -10,11 +12,24 @@ pub enum Node {
     Gate { threshold: u8, children: Children },
 }
 
-// At most 31 of them, in the order of the table.
+impl From<Line> for Node {
+    ghost use Rattle.settings.specs.Nodes.{entry_of};
+
+    ghost from_gives = { λ line node. entry_of node ≡ leaf line.kind line.image };
+
+    #[tactic(auto, unfolding(crate::specs::Nodes::entry_of))]
+    fn from(line: Line) -> Node {
+        Node::Leaf {
+            kind: line.kind,
+            statement: line.image,
+        }
+    }
+}
+
+// A leaf of a rule: the position of its entry, its kind and its statement.
 #[derive(Clone, Copy)]
-pub struct Nodes {
-    pub(crate) slots: [Node; 31],
-    pub(crate) len: usize,
-    ghost long: { length slots ≡ 31 },
-    ghost within: { len ≤ 31 },
+pub struct Leaf {
+    pub entry: usize,
+    pub kind: u8,
+    pub statement: Image,
 }

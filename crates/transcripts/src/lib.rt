@@ -3,7 +3,9 @@
 
 mod reading;
 mod spelling;
+pub mod transcript;
 mod writing;
 
 pub use reading::read_words;
+pub use transcript::Transcript;
 pub use writing::{write_images, write_words};

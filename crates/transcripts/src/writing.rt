@@ -1,9 +1,10 @@
 // Writing challenges, commitments and responses as a transcript's words.
 ghost use Rattle.std.specs.Prelude.{◌≡◌, ◌+◌, ◌*◌, length, flat_map};
 ghost use Rattle.releases.specs.Transcripts.{image_words, spelt};
+ghost use Rattle.transcripts.specs.Transcripts.{transcript_in};
 
 use crate::spelling::Spelt;
-use fields::Scalar;
+use crate::transcript::Transcript;
 use kinds::Image;
 
 // Writes the items into an output of W words each.
@@ -26,18 +27,13 @@ pub fn write_images(images: &[Image], out: &mut [u32])
 }
 
 // Writes a transcript's words into an output of exactly their number.
-pub fn write_words(
-    challenges: &[Scalar],
-    commitments: &[Image],
-    responses: &[(Scalar, Scalar)],
-    out: &mut [u32],
-)
-    requires { length out.old ≡ length challenges.now + 4 * length commitments.now + 2 * length responses.now }
-    ensures { out.new ≡ spelt (record { challenges = challenges.entry.now; commitments = commitments.now; responses = responses.now }) }
+pub fn write_words(transcript: &Transcript, out: &mut [u32])
+    requires { let t = transcript_in transcript.now in length out.old ≡ length t.challenges + 4 * length t.commitments + 2 * length t.responses }
+    ensures { out.new ≡ spelt (transcript_in transcript.now) }
 {
-    let (first, rest) = out.split_at_mut(challenges.len());
-    let (second, third) = rest.split_at_mut(4 * commitments.len());
-    write(challenges, first);
-    write(commitments, second);
-    write(responses, third);
+    let (first, rest) = out.split_at_mut(transcript.challenges.len());
+    let (second, third) = rest.split_at_mut(4 * transcript.commitments.len());
+    write(transcript.challenges, first);
+    write(transcript.commitments, second);
+    write(transcript.responses, third);
 }

@@ -1,61 +1,31 @@
-use Rattle.std.proofs.Common.{ℕ, ◌+◌, ◌*◌, cond, T, length, get_or, Some, sym, ap, ◌∙◌, subst, ap₂, arith, below_more}
+use Rattle.std.proofs.Common.{ℕ, ◌+◌, ◌*◌, cond, T, length, get_or, Some, sym, ap, ◌∙◌, subst, ap₂}
+use Rattle.refusals.specs.declared.Refusal.{Refusal}
 use Rattle.refusals.specs.declared.Refusal.TheVariants.{UnfitWord}
 use Rattle.fields.specs.Scalars.{scalar}
-use Rattle.kinds.specs.Kinds.{is_key}
-use Rattle.kinds.specs.declared.image.Image.{Image}
-use Rattle.rules.specs.Views.{children_of}
-use Rattle.releases.specs.Entries.{to_leaf, number}
+use Rattle.releases.specs.Entries.{leaves}
 use Rattle.releases.specs.Transcripts.{is_scalar, IsKey}
-use Rattle.releases.proofs.Laid.{before_none}
+use Rattle.settings.specs.declared.node.Leaf.{Leaf}
 use Rattle.settings.specs.Rules.{rule_in}
-use Rattle.checking.proofs.Steps.{each_clear, each_told, leaf_entry, gate_entry, at_leaf, no_leaf, next_leaf, next_gate, leaf_inside}
+use Rattle.checking.proofs.Leaves.{leaves_clear, leaves_told}
 use Rattle.checking.proofs.words.check_responses.Goals as goal
-use Rattle.checking.proofs.words.check_responses.Goals.{in-Leaf+else-not-is_key, in_default-node}
-
-pub loop-i-init : goal.loop-i-init
-loop-i-init g c = (sym (before_none to_leaf (rule_in c.args.rule.now)), omega arith, λ k h. absurd (omega arith))
-
-pub bounds-responses-leaf : goal.bounds-responses-leaf
-bounds-responses-leaf g c =
-    let rule = rule_in c.args.rule.now in
-    let at = leaf_entry rule c.loop-i.i c.in-Leaf.kind c.in-Leaf.statement c.in-Some.node c.in-Some.ensures c.in-Leaf.is in
-    leaf_inside rule c.loop-i.i c.loop-i.leaf c.loop-i.invariant.0 c.in-Leaf.kind c.in-Leaf.statement at (length c.args.responses.now) c.requires
-
-pub loop-i-preserved : goal.loop-i-preserved
-loop-i-preserved g c =
-    let m = g.S.LeafKinds.meaning c.args.set.now in
-    let rule = rule_in c.args.rule.now in
-    let i = c.loop-i.i in
-    let n = c.loop-i.leaf in
-    let inv = c.loop-i.invariant in
-    let P : ℕ → ℕ → Image → Type 0 = λ i kind s. IsKey m kind (get_or c.args.responses.now (number rule i) (scalar 0, scalar 0)) in
-    elim c.match-node-2.branch [
-      | in-Leaf+else-not-is_key w ↦
-          let kind = w.in-Leaf.kind in
-          let s = w.in-Leaf.statement in
-          let at = leaf_entry rule i kind s c.in-Some.node c.in-Some.ensures w.in-Leaf.is in
-          (next_leaf rule i n inv.0 kind s at _ w.leaf-is, omega (arith, w.leaf-is, inv.1), below_more _ _ inv.2 (at_leaf rule P i kind s at (subst (λ n. IsKey m kind (get_or c.args.responses.now n (scalar 0, scalar 0))) inv.0 (subst T w.if-not-is_key.ensures tt))))
-      | in_default-node w ↦
-          let k = w.in_default-node.field-0 in
-          let cs = w.in_default-node.field-1 in
-          let at = gate_entry rule i k cs c.in-Some.node c.in-Some.ensures w.in_default-node.is in
-          (next_gate rule i n inv.0 k (children_of cs) at _ w.leaf-is, omega (arith, w.leaf-is, inv.1), below_more _ _ inv.2 (no_leaf rule P i k (children_of cs) at))
-    ]
 
 pub returns-then-not-is_key : goal.returns-then-not-is_key
 returns-then-not-is_key g c =
     let m = g.S.LeafKinds.meaning c.args.set.now in
     let rule = rule_in c.args.rule.now in
     let rs = c.args.responses.now in
-    let i = c.loop-i.i in
-    let kind = c.in-Leaf.kind in
-    let s = c.in-Leaf.statement in
-    let inv = c.loop-i.invariant in
-    let at = leaf_entry rule i kind s c.in-Some.node c.in-Some.ensures c.in-Leaf.is in
-    let part = c.unfit_part.ensures ∙ ap (λ n. cond (is_scalar m (get_or rs n (scalar 0, scalar 0)).0) 1 0) inv.0 in
-    each_told i _ (omega (arith, c.loop-i-test.true, c.len-i-end.ensures.is)) inv.2
-    (λ f. subst T (sym (c.if-not-is_key.ensures ∙ ap (λ n. is_key m.q (m.kind kind).width (get_or rs n (scalar 0, scalar 0))) inv.0)) (f kind s at))
-    (ap₂ (λ a b. Some (UnfitWord (a + b))) (ap₂ ◌+◌ (ap₂ (λ a b. a + 4 * b) c.len.ensures.is c.leaf_count.ensures.is) (ap (λ n. 2 * n) inv.0)) part)
+    let R : Leaf → ℕ → Type 0 = λ x n. IsKey m x.kind (get_or rs n (scalar 0, scalar 0)) in
+    let why : ℕ → Refusal = λ n. UnfitWord (length rule + 4 * leaves rule + 2 * n + cond (is_scalar m (get_or rs n (scalar 0, scalar 0)).0) 1 0) in
+    leaves_told rule R why _ (c.deref-leaf-items.ensures ∙ c.leaves-leaves.ensures.are) c.loop-number.number _
+    c.loop-number-test.true c.loop-number.invariant (subst T (sym c.is_key.ensures ∙ c.if-not-is_key.true))
+    (ap₂ (λ a b. Some (UnfitWord (a + 2 * c.loop-number.number + b))) (ap₂ (λ a b. a + 4 * b) c.len.ensures.is c.leaf_count.ensures.is) c.unfit_part.ensures)
 
 pub returns : goal.returns
-returns g c = each_clear c.loop-i.i (omega (arith, c.loop-i-test.false, c.len-i-end.ensures.is)) c.loop-i.invariant.2
+returns g c =
+    let m = g.S.LeafKinds.meaning c.args.set.now in
+    let rule = rule_in c.args.rule.now in
+    let rs = c.args.responses.now in
+    let R : Leaf → ℕ → Type 0 = λ x n. IsKey m x.kind (get_or rs n (scalar 0, scalar 0)) in
+    let why : ℕ → Refusal = λ n. UnfitWord (length rule + 4 * leaves rule + 2 * n + cond (is_scalar m (get_or rs n (scalar 0, scalar 0)).0) 1 0) in
+    leaves_clear rule R why _ (c.deref-leaf-items.ensures ∙ c.leaves-leaves.ensures.are) c.loop-number.number
+    c.loop-number-test.false c.loop-number.invariant

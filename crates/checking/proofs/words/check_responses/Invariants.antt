@@ -1,13 +1,8 @@
-use Rattle.std.proofs.Common.{◌≡◌, ℕ, ◌<◌, ◌≤◌, get_or}
+use Rattle.std.proofs.Common.{ℕ, ◌<◌, get_or}
 use Rattle.fields.specs.Scalars.{scalar}
-use Rattle.releases.specs.Entries.{number}
 use Rattle.releases.specs.Transcripts.{IsKey}
-use Rattle.releases.specs.Calls.{AtLeaf}
-use Rattle.settings.specs.Rules.{rule_in}
+use Rattle.checking.proofs.Leaves.{blank}
 use Rattle.checking.proofs.words.check_responses.Given as goal
 
-abbrev pub invariant-loop-i : goal.invariant-loop-i
-invariant-loop-i g l =
-    let rule = rule_in l.rule in
-    (l.leaf ≡ number rule l.i) × (l.leaf ≤ l.i)
-    × ((k : ℕ) → k < l.i → AtLeaf rule (λ i kind s. IsKey (g.S.LeafKinds.meaning l.set) kind (get_or l.responses (number rule i) (scalar 0, scalar 0))) k)
+abbrev pub invariant-loop-number : goal.invariant-loop-number
+invariant-loop-number g l = (k : ℕ) → k < l.number → IsKey (g.S.LeafKinds.meaning l.set) (get_or l.leaf-items k blank).kind (get_or l.responses k (scalar 0, scalar 0))

@@ -2,33 +2,33 @@ use Rattle.std.proofs.Common.{arith}
 use Rattle.std.proofs.lemmas.Result.{err_from_is_err_and}
 use Rattle.releases.proofs.Checking.{all_passed}
 use Rattle.settings.specs.Rules.{rule_in}
-use Rattle.settings.proofs.Listing.{listing_length}
-use Rattle.checking.specs.Checkings.{transcript}
+use Rattle.settings.proofs.Listing.{rule_short}
+use Rattle.transcripts.specs.Transcripts.{transcript_in}
 use Rattle.checking.proofs.Fitting.{challenges_told, commitments_told, responses_told}
 use Rattle.checking.proofs.words.check_words.Goals as goal
 
 pub check_challenges-requires : goal.check_challenges-requires
-check_challenges-requires g c = let nodes = c.args.rule.now.nodes in omega (arith, listing_length nodes, nodes.within, c.requires.0)
+check_challenges-requires g c = omega (arith, rule_short c.args.rule.now, c.requires.challenges)
 
 pub returns-in_err-check_challenges : goal.returns-in_err-check_challenges
 returns-in_err-check_challenges g c =
     let m = g.S.LeafKinds.meaning c.args.set.now in
-    let t = transcript c.args.challenges.now c.args.commitments.now c.args.responses.now in
+    let t = transcript_in c.args.transcript.now in
     let p = err_from_is_err_and c.from_residual.result c.from_residual.ensures.1 in
-    rw (p.1, p.2) (challenges_told m (rule_in c.args.rule.now) t c.requires.0 _ c.in_err-check_challenges.ensures)
+    rw (p.1, p.2) (challenges_told m (rule_in c.args.rule.now) t c.requires.challenges _ c.in_err-check_challenges.ensures)
 
 pub returns-in_err-check_commitments : goal.returns-in_err-check_commitments
 returns-in_err-check_commitments g c =
     let m = g.S.LeafKinds.meaning c.args.set.now in
-    let t = transcript c.args.challenges.now c.args.commitments.now c.args.responses.now in
+    let t = transcript_in c.args.transcript.now in
     let scalars = (all_passed c.in_ok-check_challenges.ensures).0 in
     let p = err_from_is_err_and c.from_residual-in_err-check_commitments.result c.from_residual-in_err-check_commitments.ensures.1 in
-    rw (p.1, p.2) (commitments_told m (rule_in c.args.rule.now) t c.requires.0 (λ i l. scalars i (omega (arith, c.requires.0))) _ c.in_err-check_commitments.ensures)
+    rw (p.1, p.2) (commitments_told m (rule_in c.args.rule.now) t c.requires.challenges (λ i l. scalars i (omega (arith, c.requires.challenges))) _ c.in_err-check_commitments.ensures)
 
 pub returns : goal.returns
 returns g c =
     let m = g.S.LeafKinds.meaning c.args.set.now in
-    let t = transcript c.args.challenges.now c.args.commitments.now c.args.responses.now in
+    let t = transcript_in c.args.transcript.now in
     let scalars = (all_passed c.in_ok-check_challenges.ensures).0 in
     let images = (all_passed c.in_ok-check_commitments.ensures).0 in
-    responses_told m (rule_in c.args.rule.now) t c.requires.0 (λ i l. scalars i (omega (arith, c.requires.0))) images _ c.check_responses.ensures
+    responses_told m (rule_in c.args.rule.now) t c.requires.challenges (λ i l. scalars i (omega (arith, c.requires.challenges))) images _ c.check_responses.ensures

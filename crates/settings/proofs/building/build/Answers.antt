@@ -1,10 +1,19 @@
-use Rattle.std.proofs.Common.{sym, ap, ◌∙◌, subst}
+use Rattle.std.proofs.Common.{length, sym, ap, ◌∙◌, subst}
 use Rattle.rules.specs.Texts.{rows_in}
+use Rattle.rings.specs.Rings.{ring_lines}
 use Rattle.rings.specs.Pairings.{pair_refusal, paired}
 use Rattle.releases.specs.Entries.{entries}
 use Rattle.releases.specs.Theorems.{Setting}
 use Rattle.releases.proofs.Tabled.{reading_sets}
+use Rattle.settings.proofs.Listing.{length-paired}
 use Rattle.settings.proofs.building.build.Goals as goal
+
+pub with_lines-requires : goal.with_lines-requires
+with_lines-requires g c =
+    let rows = rows_in c.in_ok-table.table in
+    let lines = c.in_ok-ring.ensures.reads in
+    let known = sym (c.in_ok-lines.ensures.refuses ∙ ap (pair_refusal rows) lines) in
+    ap length (c.as_slice.ensures ∙ c.in_ok-lines.ensures.pairs ∙ ap (paired rows) lines) ∙ length-paired rows (ring_lines c.args.ring.now) known
 
 pub returns : goal.returns
 returns g c =
@@ -14,7 +23,7 @@ returns g c =
     let lines = c.in_ok-ring.ensures.reads in
     let whole = sym c.in_ok-ring.ensures.refuses in
     let known = sym (c.in_ok-lines.ensures.refuses ∙ ap (pair_refusal rows) lines) in
-    let listed = c.with_lines.ensures ∙ ap (entries rows) (c.in_ok-lines.ensures.pairs ∙ ap (paired rows) lines) in
+    let listed = c.with_lines.ensures ∙ ap (entries rows) (c.as_slice.ensures ∙ c.in_ok-lines.ensures.pairs ∙ ap (paired rows) lines) in
     let read = c.in_ok-table.ensures in
     record {
       built = record { rows = rows; means = read.means; whole = whole; known = known; listed = listed };

@@ -1,0 +1,12 @@
+// A rule with the set of leaf kinds that it was built over: what transcripts are checked against.
+ghost use Rattle.releases.specs.Theorems.{Setting};
+ghost use Rattle.settings.specs.Rules.{rule_in};
+
+use kinds::LeafKinds;
+use settings::Rule;
+
+pub struct Checker<'a, S: LeafKinds> {
+    pub set: &'a S,
+    pub rule: &'a Rule,
+    ghost setting: { ∥ Setting (S.LeafKinds.meaning set.now) (rule_in rule.now) ∥₁ },
+}
