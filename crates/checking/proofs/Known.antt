@@ -1,5 +1,5 @@
 -- What is known of a rule over the set of leaf kinds that it was built for.
-use Rattle.std.proofs.Common.{ℕ, ◌<◌, ◌≤◌, T, List, length, get_or, arith}
+use Rattle.std.proofs.Common.{ℕ, ◌<◌, ◌≤◌, List, length, get_or, arith}
 use mathlib.Core.Logic.{∥∥₁_elim}
 use Rattle.std.proofs.Props.{props}
 use Rattle.kinds.specs.Kinds.{KindModel, Key}

@@ -3,7 +3,7 @@ use Rattle.std.proofs.Common.{◌≡◌, ℕ, zero, suc, ◌+◌, ◌<◌, ◌�
 use Rattle.refusals.specs.declared.Refusal.{Refusal}
 use Rattle.kinds.specs.Kinds.{zeros}
 use Rattle.kinds.specs.declared.image.Image.{Image}
-use Rattle.releases.specs.Entries.{Entry, leaf, gate, LeafAt, number, leaves}
+use Rattle.releases.specs.Entries.{Entry, leaf, gate, LeafAt, number}
 use Rattle.releases.specs.Calls.{AtLeaf}
 use Rattle.releases.specs.Checks.{Clear, Each}
 use Rattle.releases.proofs.Places.{none_some, some_inj, inside}

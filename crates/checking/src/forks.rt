@@ -72,12 +72,11 @@ impl<S: LeafKinds> Checker<'_, S> {
         let field = Scalars::known(self.set.order());
         let leaves = self.rule.leaves();
         for (number, leaf) in leaves.iter().enumerate() {
+            let at = leaf.entry;
+            let pair = (transcript.challenges[at], other.challenges[at]);
             keys[number] = fork_key(
                 &field,
-                (
-                    transcript.challenges[leaf.entry],
-                    other.challenges[leaf.entry],
-                ),
+                pair,
                 transcript.responses[number],
                 other.responses[number],
             );

@@ -48,11 +48,7 @@ fn check_commitments<S: LeafKinds>(
 fn unfit_part<S: LeafKinds>(set: &S, response: (Scalar, Scalar)) -> usize
     ensures { result ≡ (if is_scalar (S.LeafKinds.meaning set.now) response.0 then 1 else 0) }
 {
-    if response.0.value() < set.order() {
-        1
-    } else {
-        0
-    }
+    usize::from(response.0.value() < set.order())
 }
 
 // Refuses the first response that is no key of its leaf's kind.

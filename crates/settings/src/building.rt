@@ -24,10 +24,10 @@ fn with_lines(table: &Table, lines: &[Line]) -> Rule
         kind: 0,
         statement: Image::ZEROS,
     });
-    let mut lines = lines.iter();
+    let mut left = lines.iter();
     for entry in table.entries() {
         nodes.push(match *entry {
-            Entry::Leaf { .. } => Node::from(*lines.next().unwrap()),
+            Entry::Leaf { .. } => Node::from(*left.next().unwrap()),
             Entry::Gate {
                 threshold,
                 children,

@@ -1,4 +1,4 @@
-use Rattle.std.proofs.Common.{◌≡◌, Bool, false, ◌&&◌, ◌==◌, ℕ, get_or, refl, sym, subst, inr, arith, rules}
+use Rattle.std.proofs.Common.{◌≡◌, Bool, false, ◌&&◌, ◌==◌, get_or, refl, sym, subst, inr, arith, rules}
 use Rattle.kinds.specs.Kinds.{zeros}
 use Rattle.kinds.specs.declared.image.Image.{Image}
 use Rattle.checking.proofs.forks.compare_commitments.Goals as goal

@@ -1,4 +1,4 @@
-use Rattle.std.proofs.Common.{ℕ, ◌+◌, ◌*◌, cond, T, length, get_or, Some, sym, ap, ◌∙◌, subst, ap₂}
+use Rattle.std.proofs.Common.{ℕ, ◌+◌, ◌*◌, cond, T, length, get_or, Some, sym, ◌∙◌, subst, ap₂}
 use Rattle.refusals.specs.declared.Refusal.{Refusal}
 use Rattle.refusals.specs.declared.Refusal.TheVariants.{UnfitWord}
 use Rattle.fields.specs.Scalars.{scalar}

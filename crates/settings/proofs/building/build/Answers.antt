@@ -13,7 +13,7 @@ with_lines-requires g c =
     let rows = rows_in c.in_ok-table.table in
     let lines = c.in_ok-ring.ensures.reads in
     let known = sym (c.in_ok-lines.ensures.refuses ∙ ap (pair_refusal rows) lines) in
-    ap length (c.as_slice.ensures ∙ c.in_ok-lines.ensures.pairs ∙ ap (paired rows) lines) ∙ length-paired rows (ring_lines c.args.ring.now) known
+    ap length (c.deref.ensures ∙ c.in_ok-lines.ensures.pairs ∙ ap (paired rows) lines) ∙ length-paired rows (ring_lines c.args.ring.now) known
 
 pub returns : goal.returns
 returns g c =
@@ -23,7 +23,7 @@ returns g c =
     let lines = c.in_ok-ring.ensures.reads in
     let whole = sym c.in_ok-ring.ensures.refuses in
     let known = sym (c.in_ok-lines.ensures.refuses ∙ ap (pair_refusal rows) lines) in
-    let listed = c.with_lines.ensures ∙ ap (entries rows) (c.as_slice.ensures ∙ c.in_ok-lines.ensures.pairs ∙ ap (paired rows) lines) in
+    let listed = c.with_lines.ensures ∙ ap (entries rows) (c.deref.ensures ∙ c.in_ok-lines.ensures.pairs ∙ ap (paired rows) lines) in
     let read = c.in_ok-table.ensures in
     record {
       built = record { rows = rows; means = read.means; whole = whole; known = known; listed = listed };

@@ -16,7 +16,7 @@ pub loop-entry-init : goal.loop-entry-init
 loop-entry-init c =
     let rows = rows_in c.args.table.now in
     let none = c.blank-nodes.ensures.none in
-    let all = c.iter-lines.ensures.rest in
+    let all = c.iter-left.ensures.rest in
     (ap₂ (λ ns ls. map entry_of ns ++ entries rows ls) none all, ap length all ∙ c.requires, ap length none)
 
 pub unwrap-requires : goal.unwrap-requires
@@ -29,7 +29,7 @@ unwrap-requires c =
     subst (λ (r : List Row). drop i r ≡ key_row n b ∷ drop (i + 1) r) c.entries-entry-items.ensures
     (drop-map_next row_of c.entries-entry-items.result.now i c.entry-item.result c.loop-entry-test.true c.entry-item.is ∙ ap (λ e. row_of e ∷ drop (i + 1) (map row_of c.entries-entry-items.result.now)) c.in-Leaf.is) in
     let more = ap keys here in
-    some_left c.loop-entry.lines c.next.new.self c.next.result c.next.ensures.steps (omega (arith, c.loop-entry.invariant.1, more))
+    some_left c.loop-entry.left c.next.new.self c.next.result c.next.ensures.steps (omega (arith, c.loop-entry.invariant.1, more))
 
 pub push-requires : goal.push-requires
 push-requires c =
@@ -49,7 +49,7 @@ loop-entry-preserved c =
     let all = entries rows c.args.lines.now in
     let inv = c.loop-entry.invariant in
     let n = c.match-entry.push in
-    let rest = entries (drop (i + 1) rows) (iter_rest c.match-entry.lines) in
+    let rest = entries (drop (i + 1) rows) (iter_rest c.match-entry.left) in
     let new : items c.push.new.self ≡ nodes ++ n ∷ [] = c.push.ensures in
     let more = ap length new in
     let long = length-append nodes (n ∷ []) in
@@ -60,19 +60,19 @@ loop-entry-preserved c =
       | in-Leaf w ↦
           let l = w.unwrap.result in
           let there : drop i rows ≡ key_row w.in-Leaf.key w.in-Leaf.place ∷ drop (i + 1) rows = here ∙ ap (λ e. row_of e ∷ drop (i + 1) rows) w.in-Leaf.is in
-          let left : iter_rest c.loop-entry.lines ≡ l.now ∷ iter_rest c.match-entry.lines =
-          next_line c.loop-entry.lines w.next.new.self w.next.result l w.next.ensures.steps w.unwrap.ensures ∙ ap (λ s. l.now ∷ iter_rest s) (sym w.lines-is) in
-          let now : entries (drop i rows) (iter_rest c.loop-entry.lines) ≡ entry_of n ∷ rest =
-          ap₂ entries there left ∙ ap (λ x. x ∷ rest) (sym w.from.ensures ∙ ap entry_of (sym w.push-is)) in
-          let a = ap length left in
+          let goes : iter_rest c.loop-entry.left ≡ l.now ∷ iter_rest c.match-entry.left =
+          next_line c.loop-entry.left w.next.new.self w.next.result l w.next.ensures.steps w.unwrap.ensures ∙ ap (λ s. l.now ∷ iter_rest s) (sym w.left-is) in
+          let now : entries (drop i rows) (iter_rest c.loop-entry.left) ≡ entry_of n ∷ rest =
+          ap₂ entries there goes ∙ ap (λ x. x ∷ rest) (sym w.from.ensures ∙ ap entry_of (sym w.push-is)) in
+          let a = ap length goes in
           let b = ap keys there in
           (ap (λ ns. map entry_of ns ++ rest) new ∙ pushed nodes n rest _ all now inv.0, omega (arith, inv.1, a, b), omega (arith, inv.2, more, long))
       | in-Gate w ↦
           let there : drop i rows ≡ gate_row w.in-Gate.threshold (children_of w.in-Gate.children) ∷ drop (i + 1) rows = here ∙ ap (λ e. row_of e ∷ drop (i + 1) rows) w.in-Gate.is in
-          let left : iter_rest c.loop-entry.lines ≡ iter_rest c.match-entry.lines = ap iter_rest (sym w.lines-is) in
-          let now : entries (drop i rows) (iter_rest c.loop-entry.lines) ≡ entry_of n ∷ rest =
-          ap₂ entries there left ∙ ap (λ x. x ∷ rest) (ap entry_of (sym w.push-is)) in
-          let a = ap length left in
+          let goes : iter_rest c.loop-entry.left ≡ iter_rest c.match-entry.left = ap iter_rest (sym w.left-is) in
+          let now : entries (drop i rows) (iter_rest c.loop-entry.left) ≡ entry_of n ∷ rest =
+          ap₂ entries there goes ∙ ap (λ x. x ∷ rest) (ap entry_of (sym w.push-is)) in
+          let a = ap length goes in
           let b = ap keys there in
           (ap (λ ns. map entry_of ns ++ rest) new ∙ pushed nodes n rest _ all now inv.0, omega (arith, inv.1, a, b), omega (arith, inv.2, more, long))
     ]

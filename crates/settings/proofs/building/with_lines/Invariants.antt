@@ -10,5 +10,5 @@ use Rattle.settings.proofs.building.with_lines.Given as goal
 abbrev pub invariant-loop-entry : goal.invariant-loop-entry
 invariant-loop-entry l =
     let rows = rows_in l.table in
-    (map entry_of (items l.nodes) ++ entries (drop l.entry-index rows) (iter_rest l.lines) ≡ entries rows l.fn.lines) × (length (iter_rest l.lines) ≡ keys (drop l.entry-index rows))
+    (map entry_of (items l.nodes) ++ entries (drop l.entry-index rows) (iter_rest l.left) ≡ entries rows l.lines) × (length (iter_rest l.left) ≡ keys (drop l.entry-index rows))
     × (length (items l.nodes) ≡ l.entry-index)

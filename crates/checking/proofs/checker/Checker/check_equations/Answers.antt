@@ -1,4 +1,4 @@
-use Rattle.std.proofs.Common.{◌≡◌, ℕ, get_or, sym, ap, ◌∙◌, subst, refl, arith}
+use Rattle.std.proofs.Common.{◌≡◌, ℕ, get_or, ◌∙◌, subst, refl, arith}
 use Rattle.refusals.specs.declared.Refusal.TheVariants.{EquationFails}
 use Rattle.fields.specs.Scalars.{scalar}
 use Rattle.kinds.specs.Kinds.{zeros}

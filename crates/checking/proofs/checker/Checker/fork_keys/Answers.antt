@@ -11,23 +11,23 @@ use Rattle.checking.proofs.Rows.{filled}
 use Rattle.checking.proofs.Leaves.{blank, leaf_stands, leaf_number, leaf_inside, leaf_asked}
 use Rattle.checking.proofs.checker.Checker.fork_keys.Goals as goal
 
-pub offset_bounds-transcript-leaf : goal.offset_bounds-transcript-leaf
-offset_bounds-transcript-leaf g c =
+pub offset_bounds-transcript-at : goal.offset_bounds-transcript-at
+offset_bounds-transcript-at g c =
     let l = leaf_inside (rule_in c.args.self.now.rule.now) _ (c.deref-leaf-items.ensures ∙ c.leaves-leaves.ensures.are) c.loop-number.number c.loop-number-test.true in
     omega (arith, l, rule_short c.args.self.now.rule.now)
 
-pub bounds-transcript-leaf : goal.bounds-transcript-leaf
-bounds-transcript-leaf g c =
+pub bounds-transcript-at : goal.bounds-transcript-at
+bounds-transcript-at g c =
     let l = leaf_inside (rule_in c.args.self.now.rule.now) _ (c.deref-leaf-items.ensures ∙ c.leaves-leaves.ensures.are) c.loop-number.number c.loop-number-test.true in
     omega (arith, l, c.requires.long)
 
-pub offset_bounds-other-leaf : goal.offset_bounds-other-leaf
-offset_bounds-other-leaf g c =
+pub offset_bounds-other-at : goal.offset_bounds-other-at
+offset_bounds-other-at g c =
     let l = leaf_inside (rule_in c.args.self.now.rule.now) _ (c.deref-leaf-items.ensures ∙ c.leaves-leaves.ensures.are) c.loop-number.number c.loop-number-test.true in
     omega (arith, l, rule_short c.args.self.now.rule.now)
 
-pub bounds-other-leaf : goal.bounds-other-leaf
-bounds-other-leaf g c =
+pub bounds-other-at : goal.bounds-other-at
+bounds-other-at g c =
     let l = leaf_inside (rule_in c.args.self.now.rule.now) _ (c.deref-leaf-items.ensures ∙ c.leaves-leaves.ensures.are) c.loop-number.number c.loop-number-test.true in
     omega (arith, l, c.requires.long)
 
