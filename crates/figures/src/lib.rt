@@ -5,8 +5,7 @@
 ghost use Rattle.figures.specs.Figures.{FiguresStand};
 
 // Every figure stands.
-pub fn figures_stand() -> u8
+pub fn figures_stand()
     ensures { FiguresStand }
 {
-    0
 }
