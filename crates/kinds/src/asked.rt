@@ -4,12 +4,12 @@ ghost use Rattle.groups.specs.Monoids.{power as nth};
 ghost use Rattle.kinds.specs.Kinds.{images, is_key as keyed};
 
 use crate::image::Image;
+use crate::key::Key;
 use crate::leaf_kinds::LeafKinds;
-use fields::Scalar;
 use groups::power;
 
 // Whether the pair is a key of this kind.
-pub fn is_key<S: LeafKinds>(set: &S, kind: u8, key: (Scalar, Scalar)) -> bool
+pub fn is_key<S: LeafKinds>(set: &S, kind: u8, key: Key) -> bool
     ensures { result ≡ keyed (S.LeafKinds.meaning set.now).q ((S.LeafKinds.meaning set.now).kind kind).width key }
 {
     let q = set.order();
@@ -22,7 +22,7 @@ pub fn is_key<S: LeafKinds>(set: &S, kind: u8, key: (Scalar, Scalar)) -> bool
 }
 
 // The image of any pair of scalars; four zeros where it is no key of this kind.
-pub fn key_image<S: LeafKinds>(set: &S, kind: u8, key: (Scalar, Scalar)) -> Image
+pub fn key_image<S: LeafKinds>(set: &S, kind: u8, key: Key) -> Image
     ensures { result ≡ ((S.LeafKinds.meaning set.now).kind kind).image key }
 {
     if is_key(set, kind, key) {

@@ -9,9 +9,9 @@ ghost use Rattle.std.proofs.Common.{rules};
 
 use crate::asked::{neutral_image, product_of_images};
 use crate::image::Image;
+use crate::key::Key;
 use crate::leaf_kinds::LeafKinds;
 use crate::side::Side;
-use fields::Scalar;
 use groups::Monoid;
 use refusals::Refusal;
 
@@ -123,7 +123,7 @@ impl<L: LeafKinds, R: LeafKinds> LeafKinds for Join<L, R> {
         }
     }
 
-    fn image_of_key(&self, kind: u8, key: (Scalar, Scalar)) -> Image {
+    fn image_of_key(&self, kind: u8, key: Key) -> Image {
         match self.side(kind) {
             Side::Left(kind) => self.left.image_of_key(kind, key),
             Side::Right(kind) => self.right.image_of_key(kind, key),

@@ -3,7 +3,7 @@ ghost use Rattle.std.specs.Prelude.{◌≡◌, ℕ, T};
 ghost use Rattle.kinds.specs.Kinds.{KindModel, Lawful, images, is_key as keyed};
 
 use crate::image::Image;
-use fields::Scalar;
+use crate::key::Key;
 use groups::Monoid;
 
 // The products are those of images, one for each kind number.
@@ -28,7 +28,7 @@ pub trait LeafKinds: Monoid<Index = u8, Element = Image> {
         ensures { result ≡ ((meaning self.now).kind kind).is_image image.now };
 
     // The image of a key that is known to be one: no test is made.
-    fn image_of_key(&self, kind: u8, key: (Scalar, Scalar)) -> Image
+    fn image_of_key(&self, kind: u8, key: Key) -> Image
         requires { T (keyed (meaning self.now).q ((meaning self.now).kind kind).width key) }
         ensures { result ≡ ((meaning self.now).kind kind).image key };
 

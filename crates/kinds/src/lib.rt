@@ -5,6 +5,7 @@ mod asked;
 mod form;
 mod image;
 mod join;
+mod key;
 mod leaf_kinds;
 mod one_kind;
 mod side;
@@ -15,5 +16,6 @@ pub use asked::{
 pub use form::Form;
 pub use image::Image;
 pub use join::Join;
+pub use key::Key;
 pub use leaf_kinds::LeafKinds;
 pub use one_kind::OneKind;

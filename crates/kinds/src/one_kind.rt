@@ -8,8 +8,8 @@ ghost use Rattle.std.proofs.Common.{rules};
 
 use crate::form::Form;
 use crate::image::Image;
+use crate::key::Key;
 use crate::leaf_kinds::LeafKinds;
-use fields::Scalar;
 use groups::{Group, Monoid, power};
 
 #[derive(Clone, Copy, Drop)]
@@ -91,7 +91,7 @@ impl<G: Group> LeafKinds for OneKind<G> {
             }
     }
 
-    fn image_of_key(&self, _kind: u8, key: (Scalar, Scalar)) -> Image {
+    fn image_of_key(&self, _kind: u8, key: Key) -> Image {
         let group = &self.group;
         let first = power(group, (), &group.g(), key.0.value());
         match self.form {

@@ -25,7 +25,7 @@ mod tests {
         supplied(residues()?, circle()?)
     }
 
-    fn key(u: u32, v: u32) -> (Scalar, Scalar) {
+    fn key(u: u32, v: u32) -> Key {
         (Scalar::new(u), Scalar::new(v))
     }
 

@@ -6,17 +6,11 @@ ghost use Rattle.kinds.specs.Joins.{join as both};
 ghost use Rattle.stranger.specs.Joined.{multiples_of as meant, one_kind_of, OfSum};
 
 use crate::multiples::Multiples;
-use fields::Scalar;
 use groups::ResidueGroup;
-use kinds::{Image, Join, LeafKinds, OneKind, image_power, image_product, key_image};
+use kinds::{Image, Join, Key, LeafKinds, OneKind, image_power, image_product, key_image};
 
 // The product of the images of two keys; by the laws of a set it is the image of their sum.
-pub fn image_of_sum<S: LeafKinds>(
-    set: &S,
-    kind: u8,
-    v: (Scalar, Scalar),
-    w: (Scalar, Scalar),
-) -> Image
+pub fn image_of_sum<S: LeafKinds>(set: &S, kind: u8, v: Key, w: Key) -> Image
     ensures { OfSum (S.LeafKinds.meaning set.now) kind v w result }
 {
     let first = key_image(set, kind, v);
@@ -25,7 +19,7 @@ pub fn image_of_sum<S: LeafKinds>(
 }
 
 // Two sets of multiples as one: the image of any pair of scalars.
-pub fn image_beside_own(set: &Join<Multiples, Multiples>, kind: u8, key: (Scalar, Scalar)) -> Image
+pub fn image_beside_own(set: &Join<Multiples, Multiples>, kind: u8, key: Key) -> Image
     ensures { result ≡ ((both (meant set.now.left) (meant set.now.right)).kind kind).image key }
 {
     key_image(set, kind, key)
@@ -47,8 +41,8 @@ pub fn power_beside_any<S: LeafKinds>(
 pub fn sum_beside_one_kind(
     set: &Join<Multiples, OneKind<ResidueGroup>>,
     kind: u8,
-    v: (Scalar, Scalar),
-    w: (Scalar, Scalar),
+    v: Key,
+    w: Key,
 ) -> Image
     ensures { OfSum (both (meant set.now.left) (one_kind_of set.now.right)) kind v w result }
 {

@@ -9,7 +9,7 @@ ghost use Rattle.std.proofs.Common.{rules, arith};
 use crate::multiples::Multiples;
 use fields::{Field, Scalar};
 use groups::Monoid;
-use kinds::{Image, LeafKinds};
+use kinds::{Image, Key, LeafKinds};
 
 // A number as an image.
 fn written(number: u32) -> Image
@@ -76,7 +76,7 @@ impl LeafKinds for Multiples {
         self.has(kind) && self.is_number(image)
     }
 
-    fn image_of_key(&self, kind: u8, key: (Scalar, Scalar)) -> Image {
+    fn image_of_key(&self, kind: u8, key: Key) -> Image {
         let q = self.scalars.order();
         let base = fields::product_modulo(q, kind as u32, self.base.value());
         written(fields::product_modulo(q, key.0.value(), base))

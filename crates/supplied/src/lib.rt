@@ -8,9 +8,8 @@ ghost use Rattle.kinds.specs.Kinds.{no_kind};
 ghost use Rattle.kinds.specs.Numbered.{set_of};
 ghost use Rattle.supplied.specs.Supplied.{three_of, six, meant};
 
-use fields::Scalar;
 use groups::{CircleGroup, Group, ResidueGroup};
-use kinds::{Form, Image, Join, LeafKinds, OneKind, key_image};
+use kinds::{Form, Image, Join, Key, LeafKinds, OneKind, key_image};
 use refusals::Refusal;
 
 // The three kinds over one group.
@@ -65,7 +64,7 @@ pub fn image_of_six(
     residues: ResidueGroup,
     circle: CircleGroup,
     kind: u8,
-    key: (Scalar, Scalar),
+    key: Key,
 ) -> Result<Image, Refusal>
     ensures refuses { told result ≡ unless (residues.q == circle.q) OrdersDiffer }
     ensures makes { IfOk result (λ i. i ≡ (slice_index_or (no_kind ∷ six residues circle) kind no_kind).image key) }

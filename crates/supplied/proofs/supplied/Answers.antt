@@ -4,11 +4,10 @@ use Rattle.supplied.proofs.supplied.Goals as goal
 
 pub returns : goal.returns
 returns c =
-    let r = c.args.residues in
-    let k = c.args.circle in
-    let a = c.three.result in
-    let b = c.three-2.result in
+    let left = c.three.ensures in
+    let right = c.three-2.ensures in
+    let new = c.new.ensures in
     record {
-      refuses = c.new.ensures.refuses ∙ why_refused r k a b c.three.ensures c.three-2.ensures;
-      makes = six_made r k a b c.three.ensures c.three-2.ensures c.new.result c.new.ensures.refuses c.new.ensures.makes;
+      refuses = new.refuses ∙ why_refused _ _ _ _ left right;
+      makes = six_made _ _ _ _ left right c.new.result new.refuses new.makes;
     }
