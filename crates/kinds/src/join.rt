@@ -22,7 +22,7 @@ fn check_sides<L: LeafKinds, R: LeafKinds>(left: &L, right: &R) -> Result<(), Re
     if left.order() != right.order() {
         return Err(Refusal::OrdersDiffer);
     }
-    if left.count() as u16 + right.count() as u16 > 255 {
+    if u16::from(left.count()) + u16::from(right.count()) > 255 {
         return Err(Refusal::TooManyKinds);
     }
     Ok(())

@@ -78,7 +78,7 @@ impl LeafKinds for Multiples {
 
     fn image_of_key(&self, kind: u8, key: Key) -> Image {
         let q = self.scalars.order();
-        let base = fields::product_modulo(q, kind as u32, self.base.value());
+        let base = fields::product_modulo(q, u32::from(kind), self.base.value());
         written(fields::product_modulo(q, key.0.value(), base))
     }
 }
