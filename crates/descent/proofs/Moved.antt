@@ -1,13 +1,13 @@
 -- What one write changes in a row, and what stays.
 use mathlib.Core.Path.{◌≡◌, refl, sym, ap, ap₂, subst, ◌∙◌}
-use mathlib.Core.List.{List, [], ◌∷◌, map}
+use mathlib.Core.List.{List, [], ◌∷◌, ◌++◌, map}
+use Rattle.std.proofs.lemmas.List.{get_or_append_left, length-append}
 use mathlib.Core.Option.{some}
 use Prim.Native.Nat.{ℕ, zero, suc, ◌+◌, ◌-◌, ◌<◌, ◌≤◌}
-use native.Mathlib.Decide.{ℕ_discrete, dec_lt}
 use native.Mathlib.Omega.{arith}
-use lib.ListN.{length, get_or, set, take, drop, get_elem?, get_or-replicate, length-drop}
+use lib.ListN.{length, get_or, set, take, drop, get_elem?, length-drop}
 use lib.Seq.{get_or-set_same, get_or-set_other, get_or-take, get_or-drop, length-take-le, take_all}
-use Rattle.descent.specs.Rows.{Begins}
+use Rattle.descent.specs.Rows.{SpreadOut}
 
 -- an entry inside a row is the same at every default
 pub any_default : {E : Type 0} (xs : List E) (i : ℕ) (d e : E) → i < length xs → get_or xs i d ≡ get_or xs i e
@@ -20,45 +20,39 @@ taken [] i e d h = absurd (let z : ◌≡◌ {A = ℕ} 0 1 = cc in let w = z in 
 taken (x ∷ xs) zero e d h = (omega arith, cc)
 taken (x ∷ xs) (suc i) e d h = let t = taken xs i e d h in (omega (arith, t.0), t.1)
 
-pub begins_more : {E : Type 0} (j : ℕ) (row xs : List E) (x : E) → j < length row → j < length xs → x ≡ get_or row j x → Begins j row xs → Begins (j + 1) row (set xs j x)
-begins_more {E} j row xs x inside room is so_far k d h = go (ℕ_discrete k j)
+abbrev pub Rising : List ℕ → Type 0
+Rising cs = (i j : ℕ) → i < j → j < length cs → get_or cs i 0 < get_or cs j 0
+
+-- one entry is put at its place, and what is left is spread out after it
+pub spread_first : {E : Type 0} (cs left : List ℕ) (row rest : List E) (c : ℕ) (x : E) (xs zs : List E) → cs ≡ c ∷ left → row ≡ x ∷ rest → c < length xs → Rising cs
+    → SpreadOut left rest (set xs c x) zs → SpreadOut cs row xs zs
+spread_first {E} cs left row rest c x xs zs ec er room rising s =
+    subst (λ u. SpreadOut u row xs zs) (sym ec) (subst (λ u. SpreadOut (c ∷ left) u xs zs) (sym er) record {
+      placed = placed;
+      kept = λ p d none. s.kept p d (λ j l e. none (suc j) (omega arith) e) ∙ get_or-set_other xs c p x d (λ e. none 0 (omega arith) (sym e));
+    })
   where
-    go : Dec (k ≡ j) → get_or (set xs j x) k d ≡ get_or row k d
-    go (yes e) =
-        ap (λ i. get_or (set xs j x) i d) e ∙ get_or-set_same xs j x d room ∙ is ∙ any_default row j x d inside ∙ ap (λ i. get_or row i d) (sym e)
-    go (no n) = get_or-set_other xs j k x d n ∙ so_far k d (omega arith)
+    apart : (j : ℕ) → j < length left → get_or left j 0 ≡ c → ⊥
+    apart j l e = let r : c < get_or left j 0 = subst Rising ec rising 0 (suc j) (omega arith) (omega arith) in omega arith
 
--- one child more
-module _ {E : Type 0} (cs : List ℕ) (row xs ys : List E) (j : ℕ) (x : E)
-    (child : j < length cs) (inside : j < length row) (room : get_or cs j 0 < length ys)
-    (rising : (i k : ℕ) → i < k → k < length cs → get_or cs i 0 < get_or cs k 0) (is : x ≡ get_or row j x) where
-  pub placed_more : ((k : ℕ) (d : E) → k < j → get_or ys (get_or cs k 0) d ≡ get_or row k d)
-      → (k : ℕ) (d : E) → k < j + 1 → get_or (set ys (get_or cs j 0) x) (get_or cs k 0) d ≡ get_or row k d
-  placed_more so_far k d h = go (ℕ_discrete k j)
-    where
-      go : Dec (k ≡ j) → get_or (set ys (get_or cs j 0) x) (get_or cs k 0) d ≡ get_or row k d
-      go (yes e) =
-          ap (λ i. get_or (set ys (get_or cs j 0) x) (get_or cs i 0) d) e ∙ get_or-set_same ys (get_or cs j 0) x d room ∙ is ∙ any_default row j x d inside
-          ∙ ap (λ i. get_or row i d) (sym e)
-      go (no n) =
-          let lt : k < j = omega arith in
-          let below = rising k j lt child in
-          get_or-set_other ys (get_or cs j 0) (get_or cs k 0) x d (λ e. omega arith) ∙ so_far k d lt
+    placed : (j : ℕ) (d : E) → j < suc (length left) → get_or zs (get_or (c ∷ left) j 0) d ≡ get_or (x ∷ rest) j d
+    placed zero d l = s.kept c d apart ∙ get_or-set_same xs c x d room
+    placed (suc j) d l = s.placed j d (omega arith)
 
-  pub kept_more : ((p : ℕ) (d : E) → ((k : ℕ) → k < j → get_or cs k 0 ≡ p → ⊥) → get_or ys p d ≡ get_or xs p d)
-      → (p : ℕ) (d : E) → ((k : ℕ) → k < j + 1 → get_or cs k 0 ≡ p → ⊥) → get_or (set ys (get_or cs j 0) x) p d ≡ get_or xs p d
-  kept_more so_far p d none =
-      get_or-set_other ys (get_or cs j 0) p x d (λ e. none j (omega arith) (sym e)) ∙ so_far p d (λ k h. none k (omega arith))
+pub inside_left : (cs left : List ℕ) (c n : ℕ) → cs ≡ c ∷ left → ((j : ℕ) → j < length cs → get_or cs j 0 < n) → (c < n) × ((j : ℕ) → j < length left → get_or left j 0 < n)
+inside_left cs left c n e inside =
+    let all = subst (λ u. (j : ℕ) → j < length u → get_or u j 0 < n) e inside in
+    (all 0 (omega arith), λ j h. all (suc j) (omega arith))
 
--- what two rows give at the places of the first, and of the second after them
-pub all_members : {E : Type 0} (P : E → Type 0) (z : E) (n : ℕ) (row xs ys : List E) → n ≤ length row → length ys ≡ length xs
-    → Begins n row ys → ((j : ℕ) (d : E) → n ≤ j → get_or ys j d ≡ get_or xs j d)
-    → ((i : ℕ) → i < length row → P (get_or row i z)) → ((i : ℕ) → i < length xs → P (get_or xs i z)) → (i : ℕ) → i < length ys → P (get_or ys i z)
-all_members {E} P z n row xs ys fits long front rest in_row in-xs i h = go (dec_lt i n)
-  where
-    go : Dec (i < n) → P (get_or ys i z)
-    go (yes l) = subst P (sym (front i z l)) (in_row i (omega arith))
-    go (no l) = subst P (sym (rest i z (omega arith))) (in-xs i (omega arith))
+pub rising_left : (cs left : List ℕ) (c : ℕ) → cs ≡ c ∷ left → Rising cs → Rising left
+rising_left cs left c e rising i j l h = subst Rising e rising (suc i) (suc j) (omega arith) (omega arith)
+
+-- a row whose first n entries were copied from another
+pub copied_long : {E : Type 0} (copied ss row : List E) (n : ℕ) → copied ≡ take n ss → n ≤ length ss → n ≤ length row → length (copied ++ drop n row) ≡ length row
+copied_long copied ss row n e fits room = omega (arith, ap length e, length-take-le n ss fits, length-append copied (drop n row), length-drop n row)
+
+pub copied_at : {E : Type 0} (copied ss rest : List E) (n j : ℕ) (d : E) → copied ≡ take n ss → n ≤ length ss → j < n → get_or (copied ++ rest) j d ≡ get_or ss j d
+copied_at copied ss rest n j d e fits h = get_or_append_left copied rest d j (omega (arith, ap length e, length-take-le n ss fits)) ∙ ap (λ u. get_or u j d) e ∙ get_or-take n ss j d h
 
 -- the entries at some positions, where they are those of a row
 pub same_row : {E : Type 0} (z : E) (ys : List E) (cs : List ℕ) (row : List E) → length row ≡ length cs
@@ -71,17 +65,6 @@ same_row z ys (c ∷ cs) (x ∷ row) l h = ap₂ ◌∷◌ (h zero (omega arith)
 -- the first of eight equal entries
 pub eight_length : {E : Type 0} (n : ℕ) (x : E) → n ≤ 8 → length (take n (x ∷ x ∷ x ∷ x ∷ x ∷ x ∷ x ∷ x ∷ [])) ≡ n
 eight_length n x h = length-take-le n (x ∷ x ∷ x ∷ x ∷ x ∷ x ∷ x ∷ x ∷ []) h
-
-pub eight_at : {E : Type 0} (n i : ℕ) (x z : E) → n ≤ 8 → i < n → get_or (take n (x ∷ x ∷ x ∷ x ∷ x ∷ x ∷ x ∷ x ∷ [])) i z ≡ x
-eight_at n i x z h l = get_or-take n (x ∷ x ∷ x ∷ x ∷ x ∷ x ∷ x ∷ x ∷ []) i z l ∙ get_or-replicate 8 i x z (omega arith)
-
-pub filled_more : {E : Type 0} (xs : List E) (j : ℕ) (x : E) → j < length xs → ((k : ℕ) (d : E) → k < j → get_or xs k d ≡ x)
-    → (k : ℕ) (d : E) → k < j + 1 → get_or (set xs j x) k d ≡ x
-filled_more {E} xs j x room so_far k d h = go (ℕ_discrete k j)
-  where
-    go : Dec (k ≡ j) → get_or (set xs j x) k d ≡ x
-    go (yes e) = ap (λ i. get_or (set xs j x) i d) e ∙ get_or-set_same xs j x d room
-    go (no n) = get_or-set_other xs j k x d n ∙ so_far k d (omega arith)
 
 -- a part that goes to the end
 pub to_end : {E : Type 0} (xs : List E) (n : ℕ) → take (length xs - n) (drop n xs) ≡ drop n xs

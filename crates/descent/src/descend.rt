@@ -2,17 +2,34 @@
 ghost use Rattle.std.specs.Prelude.{◌≡◌, ℕ, ◌≤◌, ◌<◌, T, length, get_or};
 ghost use Rattle.polynomials.specs.Polynomials.{Members};
 ghost use Rattle.rules.specs.Texts.{rows_in};
-ghost use Rattle.descent.specs.Descents.{before, Descends};
+ghost use Rattle.rules.specs.Views.{row_of};
+ghost use Rattle.descent.specs.Descents.{share_size, before, Descends};
 
 use crate::gate::split_gate;
 use fields::Field;
 use rules::{Entry, Table};
 
+// kept: a loop and not the library's `fill`, which asks that a clone of an element cannot fail: nothing says so of an element that is only known to be copied
 fn fill<E: Copy>(x: E, to: &mut [E])
     ensures { (j : ℕ) (d : E) → j < length to.new → get_or to.new j d ≡ x }
 {
-    for j in 0..to.len() {
-        to[j] = x;
+    for entry in to.iter_mut() {
+        *entry = x;
+    }
+}
+
+// How many scalars an entry takes from the shares.
+#[tactic(auto, unfolding(rules::specs::Views::row_of))]
+fn share(entry: &Entry) -> usize
+    ensures is { result ≡ share_size (row_of entry.now) }
+    ensures few { result ≤ 8 }
+{
+    match entry {
+        Entry::Leaf { .. } => 0,
+        Entry::Gate {
+            threshold,
+            children,
+        } => children.len().saturating_sub(*threshold as usize),
     }
 }
 
@@ -20,20 +37,7 @@ fn fill<E: Copy>(x: E, to: &mut [E])
 pub fn share_count(table: &Table) -> usize
     ensures { result ≡ before (rows_in table.now) (length (rows_in table.now)) }
 {
-    let mut count = 0;
-    for i in 0..table.len() {
-        let Some(entry) = table.entry(i) else {
-            return count;
-        };
-        if let Entry::Gate {
-            threshold,
-            children,
-        } = entry
-        {
-            count += children.len() - threshold as usize;
-        }
-    }
-    count
+    table.entries().iter().map(share).sum()
 }
 
 // Splits a challenge down a rule, every gate as a simulated one: a gate's share gives its first children's challenges.
@@ -50,10 +54,7 @@ pub fn split_down<F: Field>(
 {
     fill(challenge, challenges);
     let mut used = 0;
-    for i in 0..table.len() {
-        let Some(entry) = table.entry(i) else {
-            return;
-        };
+    for (i, entry) in table.entries().iter().enumerate() {
         if let Entry::Gate {
             threshold,
             children,
@@ -62,13 +63,13 @@ pub fn split_down<F: Field>(
             let own = challenges[i];
             split_gate(
                 field,
-                threshold as usize,
-                &children,
+                *threshold as usize,
+                children,
                 own,
                 &shares[used..],
                 challenges,
             );
-            used += children.len() - threshold as usize;
         }
+        used += share(entry);
     }
 }

@@ -5,31 +5,10 @@ ghost use Rattle.rules.specs.Views.{children_of};
 ghost use Rattle.splits.specs.Gates.{Balanced};
 ghost use Rattle.descent.specs.Descents.{at_children, AtGate};
 
-use crate::rows::{copy_first, spread_out};
+use crate::rows::spread_out;
 use fields::Field;
 use rules::Children;
 use splits::split_simulated;
-
-// What `split_gate` does, with room for the children's challenges.
-fn split_gate_in<F: Field>(
-    field: &F,
-    threshold: usize,
-    children: &Children,
-    own: F::Element,
-    shares: &[F::Element],
-    row: &mut [F::Element],
-    challenges: &mut [F::Element],
-)
-    requires sizes { (threshold ≤ length (children_of children.now)) × ((length (children_of children.now) ≤ 8) × ((length (children_of children.now) - threshold ≤ length shares.now) × (length row.old ≡ length (children_of children.now)))) }
-    requires elements { let m = F.Field.model field.now in (T (m.member own)) × ((Members m shares.now) × (Members m row.old)) }
-    requires inside { (j : ℕ) → j < length (children_of children.now) → get_or (children_of children.now) j 0 < length challenges.old }
-    requires rising { (i j : ℕ) → i < j → j < length (children_of children.now) → get_or (children_of children.now) i 0 < get_or (children_of children.now) j 0 }
-    ensures { AtGate (F.Field.model field.now) threshold (children_of children.now) own shares.now challenges.old challenges.new }
-{
-    copy_first(children.len() - threshold, shares, row);
-    split_simulated(field, threshold, own, row);
-    spread_out(children, row, challenges);
-}
 
 // Splits at a gate: the first of its children get the shares, the others what balances it; no other entry changes.
 pub fn split_gate<F: Field>(
@@ -46,15 +25,11 @@ pub fn split_gate<F: Field>(
     requires rising { (i j : ℕ) → i < j → j < length (children_of children.now) → get_or (children_of children.now) i 0 < get_or (children_of children.now) j 0 }
     ensures { AtGate (F.Field.model field.now) threshold (children_of children.now) own shares.now challenges.old challenges.new }
 {
-    let mut row = [own; 8];
-    let all = &mut row[..];
-    split_gate_in(
-        field,
-        threshold,
-        children,
-        own,
-        shares,
-        &mut all[..children.len()],
-        challenges,
-    );
+    let mut room = [own; 8];
+    let room: &mut [F::Element] = &mut room;
+    let row = &mut room[..children.len()];
+    let share = children.len() - threshold;
+    row[..share].copy_from_slice(&shares[..share]);
+    split_simulated(field, threshold, own, row);
+    spread_out(children, row, challenges);
 }

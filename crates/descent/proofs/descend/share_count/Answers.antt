@@ -1,47 +1,22 @@
-use mathlib.Core.Path.{sym}
-use native.Mathlib.Omega.{arith}
-use Rattle.rules.specs.Tables.{leaf, node}
-use Rattle.rules.specs.Views.{children_of}
+use Rattle.std.proofs.Common.{◌^◌, length, ap, ◌∙◌, arith, rules}
+use Rattle.std.proofs.lemmas.List.{length-map}
+use Rattle.std.proofs.lemmas.Iterator.{YieldsList-from_slice, YieldsList-from_map}
+use Rattle.std.proofs.lemmas.Iterator.Consumers.{sum_by_from_yields_List, fits_by_from_yields_list}
+use Rattle.rules.specs.Views.{row_of}
 use Rattle.rules.specs.Texts.{rows_in}
-use Rattle.descent.proofs.Shares.{before_none, before_more, gate_row, leaf_row}
+use Rattle.rules.proofs.Whole.{table_well_formed}
+use Rattle.descent.specs.Descents.{share_size}
+use Rattle.descent.proofs.Shares.{before_all, shares_few}
 use Rattle.descent.proofs.descend.share_count.Goals as goal
-use Rattle.descent.proofs.descend.share_count.Goals.{in-Gate, in_default-entry}
 
-pub loop-i-init : goal.loop-i-init
-loop-i-init c = (sym (before_none (rows_in c.args.table.now)), omega arith)
+pub sum-requires-clause-fits : goal.sum-requires-clause-fits
+sum-requires-clause-fits c =
+    let es = c.entries.result.now in
+    fits_by_from_yields_list (λ e. share_size (row_of e)) es c.map.result (2 ^ 64) (YieldsList-from_map _ (λ e. share_size (row_of e)) (YieldsList-from_slice es (search rules)) c.map.ensures.closure (λ x r q h. search rules))
+    (omega (arith, shares_few es, length-map es row_of, ap length c.entries.ensures, (table_well_formed c.args.table.now).few_rows))
 
-pub overflow_sub-count : goal.overflow_sub-count
-overflow_sub-count c =
-    let es = rows_in c.args.table.now in
-    let cs = children_of c.in-Gate.children in
-    let k = c.in-Gate.threshold in
-    let at = gate_row es c.loop-i.i k c.in-Gate.children c.in-Some.entry c.in-Some.ensures c.in-Gate.is in
-    omega (arith, c.len.ensures, c.len-i-end.ensures.formed.fits c.loop-i.i k cs at)
-
-pub overflow_add-count : goal.overflow_add-count
-overflow_add-count c =
-    let es = rows_in c.args.table.now in
-    let cs = children_of c.in-Gate.children in
-    let k = c.in-Gate.threshold in
-    let at = gate_row es c.loop-i.i k c.in-Gate.children c.in-Some.entry c.in-Some.ensures c.in-Gate.is in
-    let formed = c.len-i-end.ensures.formed in
-    omega (arith, c.len.ensures, formed.fits c.loop-i.i k cs at, c.loop-i.invariant.1, formed.few_rows, c.len-i-end.ensures.is)
-
-pub loop-i-preserved : goal.loop-i-preserved
-loop-i-preserved c =
-    let es = rows_in c.args.table.now in
-    let i = c.loop-i.i in
-    elim c.match-entry-2.branch [
-      | in-Gate w ↦
-          let cs = children_of w.in-Gate.children in
-          let k = w.in-Gate.threshold in
-          let at = gate_row es i k w.in-Gate.children c.in-Some.entry c.in-Some.ensures w.in-Gate.is in (
-            omega (arith, w.count-is, w.len.ensures, c.loop-i.invariant, before_more es i (node k cs) at),
-            omega (arith, w.count-is, w.len.ensures, c.loop-i.invariant, c.len-i-end.ensures.formed.fits i k cs at),
-          )
-      | in_default-entry w ↦
-          let n = w.in_default-entry.field-0 in
-          let b = w.in_default-entry.field-1 in
-          let at = leaf_row es i n b c.in-Some.entry c.in-Some.ensures w.in_default-entry.is in
-          (omega (arith, w.count-is, c.loop-i.invariant, before_more es i (leaf n b) at), omega (arith, w.count-is, c.loop-i.invariant))
-    ]
+pub returns : goal.returns
+returns c =
+    let es = c.entries.result.now in
+    sum_by_from_yields_List (λ e. share_size (row_of e)) es c.map.result c.sum.result c.sum.ensures.ran (YieldsList-from_map _ (λ e. share_size (row_of e)) (YieldsList-from_slice es (search rules)) c.map.ensures.closure (λ x r q h. search rules))
+    ∙ before_all es (rows_in c.args.table.now) c.entries.ensures

@@ -1,43 +1,35 @@
-use mathlib.Core.Path.{sym, ap, ◌∙◌}
-use Prim.Native.Nat.{◌<◌}
-use native.Mathlib.Omega.{arith}
-use lib.ListN.{length, get_or, set, length-set}
+use Rattle.std.proofs.Common.{◌<◌, length, get_or, sym, ap, subst, length-set, arith}
 use borrow.Author.Rules.{rules}
-use Rattle.rules.proofs.Lists.{item_at}
-use Rattle.rules.specs.Views.{children_of}
-use Rattle.descent.proofs.Moved.{taken, placed_more, kept_more}
+use Rattle.std.specs.Slice.Iter.{iter_rest}
+use Rattle.std.specs.Iterator.Adapters.{zip_first, zip_second}
+use Rattle.descent.proofs.Moved.{spread_first, inside_left, rising_left}
 use Rattle.descent.proofs.rows.spread_out.Goals as goal
 
 pub bounds-to-position : goal.bounds-to-position
 bounds-to-position g c =
-    let t = taken (children_of c.args.children.now) c.loop-j.j c.in-Some.position.now 0 (item_at c.deref.result.now (children_of c.args.children.now) c.loop-j.j c.in-Some.position c.in-Some.ensures.lookup c.deref.ensures) in
-    omega (arith, c.requires.inside c.loop-j.j t.0, t.1, c.loop-j.invariant.0)
+    let before = iter_rest (zip_first c.loop-position.position-iterator) in
+    (inside_left before (iter_rest (zip_first c.next.new.self)) c.in-Some.position.now (length c.loop-position.to) c.in-Some.ensures.steps.0 c.loop-position.invariant.1).0
 
 pub offset_bounds-to-position : goal.offset_bounds-to-position
 offset_bounds-to-position g c =
-    let t = taken (children_of c.args.children.now) c.loop-j.j c.in-Some.position.now 0 (item_at c.deref.result.now (children_of c.args.children.now) c.loop-j.j c.in-Some.position c.in-Some.ensures.lookup c.deref.ensures) in
-    let h : c.in-Some.position.now < length c.loop-j.to = omega (arith, c.requires.inside c.loop-j.j t.0, t.1, c.loop-j.invariant.0) in
+    let before = iter_rest (zip_first c.loop-position.position-iterator) in
+    let inside = inside_left before (iter_rest (zip_first c.next.new.self)) c.in-Some.position.now (length c.loop-position.to) c.in-Some.ensures.steps.0 c.loop-position.invariant.1 in
     search rules
 
-pub loop-j-preserved : goal.loop-j-preserved
-loop-j-preserved g c =
-    let cs = children_of c.args.children.now in
-    let row = c.args.row.now in
-    let xs = c.args.to.now in
-    let ys = c.loop-j.to in
-    let j = c.loop-j.j in
-    let x = c.index-row-j.result in
-    let inv = c.loop-j.invariant in
-    let t = taken cs j c.in-Some.position.now 0 (item_at c.deref.result.now (children_of c.args.children.now) c.loop-j.j c.in-Some.position c.in-Some.ensures.lookup c.deref.ensures) in
-    let room : get_or cs j 0 < length ys = omega (arith, c.requires.inside j t.0, inv.0) in
-    let inside : j < length row = c.loop-j-test.true in (
-      simp length-set inv.0,
-      (λ k d h. ap (λ at. get_or (set ys at x) (get_or cs k 0) d) (sym t.1) ∙ placed_more cs row xs ys j x t.0 inside room c.requires.rising c.index-row-j.is inv.1 k d h),
-      (λ p d none. ap (λ at. get_or (set ys at x) p d) (sym t.1) ∙ kept_more cs row xs ys j x t.0 inside room c.requires.rising c.index-row-j.is inv.2 p d none),
+pub loop-position-preserved : goal.loop-position-preserved
+loop-position-preserved g c =
+    let inv = c.loop-position.invariant in
+    let p = c.in-Some.position.now in
+    let x = c.in-Some.x.now in
+    let before = iter_rest (zip_first c.loop-position.position-iterator) in
+    let left = iter_rest (zip_first c.next.new.self) in
+    let row = iter_rest (zip_second c.loop-position.position-iterator) in
+    let rest = iter_rest (zip_second c.next.new.self) in
+    let step = c.in-Some.ensures.steps in
+    let to = c.loop-position.to in
+    let inside = inside_left before left p (length to) step.0 inv.1 in (
+      omega (arith, ap length step.0, ap length step.1, inv.0),
+      λ j h. subst (λ n. get_or left j 0 < n) (sym (length-set to p x)) (inside.1 j h),
+      rising_left before left p step.0 inv.2,
+      λ zs s. inv.3 zs (spread_first before left row rest p x to zs step.0 step.1 inside.0 inv.2 s),
     )
-
-pub returns : goal.returns
-returns g c = record {
-  placed = λ j d h. c.loop-j.invariant.1 j d (omega arith);
-  kept = λ p d none. c.loop-j.invariant.2 p d (λ k h. none k (omega arith));
-}
