@@ -3,14 +3,13 @@
 --   leading c bs     how many bytes at the front of bs are of the class c
 --   front c bs, past c bs   these bytes, and the bytes after them
 --   after_line bs    the bytes after the first end of a line
---   same xs ys       the two texts are one
 --   digits w         w has only decimal digits
 --   decimal n w      the number that the digits w stand for after the digits of n
 --   number w         the number that the word w stands for: digits, at least one, and below 2^32
 --   small n          n where it is below 256
---   ink_end i n bs   where the last byte that is no blank ends; bs begins at i, and what is before it ends at n
 --   trimmed bs       bs without the blanks after its last other byte
-use Rattle.std.specs.Prelude.{ℕ, suc, ◌+◌, ◌-◌, ◌*◌, Bool, true, false, cond, not, ◌&&◌, ◌||◌, List, [], ◌∷◌, take, drop, Some, None, Option, ◌==◌, nat_le, nat_lt}
+use Rattle.std.specs.Prelude.{ℕ, ◌+◌, ◌-◌, ◌*◌, Bool, true, cond, not, ◌&&◌, ◌||◌, List, [], ◌∷◌, length, take, drop, Some, None, Option, ◌==◌, nat_le, nat_lt}
+use Rattle.std.specs.List.{prefix_len, suffix_len}
 use Rattle.words.specs.declared.bytes.Class.{Class}
 use Rattle.words.specs.declared.bytes.Class.TheVariants.{Line, Code, Blank, Word}
 
@@ -25,8 +24,7 @@ in_class Blank b = is_blank b
 in_class Word b = not (is_blank b)
 
 abbrev pub leading : Class → List ℕ → ℕ
-leading c [] = 0
-leading c (b ∷ bs) = cond (in_class c b) (suc (leading c bs)) 0
+leading c bs = prefix_len (in_class c) bs
 
 abbrev pub front : Class → List ℕ → List ℕ
 front c bs = take (leading c bs) bs
@@ -36,12 +34,6 @@ past c bs = drop (leading c bs) bs
 
 abbrev pub after_line : List ℕ → List ℕ
 after_line bs = drop 1 (past Line bs)
-
-abbrev pub same : List ℕ → List ℕ → Bool
-same [] [] = true
-same [] (y ∷ ys) = false
-same (x ∷ xs) [] = false
-same (x ∷ xs) (y ∷ ys) = x == y && same xs ys
 
 abbrev pub is_digit : ℕ → Bool
 is_digit b = nat_le 48 b && nat_le b 57
@@ -66,9 +58,5 @@ abbrev pub small : Option ℕ → Option ℕ
 small None = None
 small (Some n) = cond (nat_lt n 256) (Some n) None
 
-abbrev pub ink_end : ℕ → ℕ → List ℕ → ℕ
-ink_end i n [] = n
-ink_end i n (b ∷ bs) = ink_end (i + 1) (cond (is_blank b) n (i + 1)) bs
-
 abbrev pub trimmed : List ℕ → List ℕ
-trimmed bs = take (ink_end 0 0 bs) bs
+trimmed bs = take (length bs - suffix_len is_blank bs) bs

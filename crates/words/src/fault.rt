@@ -2,7 +2,7 @@
 use crate::kind::Kind;
 use std::fmt;
 
-#[derive(Clone, Copy)]
+#[derive(Clone, Copy, PartialEq, Eq, Debug)]
 pub enum Expected {
     // the name of a command
     Command,
@@ -42,7 +42,7 @@ pub enum Expected {
     AfterRule,
 }
 
-#[derive(Clone, Copy)]
+#[derive(Clone, Copy, PartialEq, Eq, Debug)]
 pub struct Fault {
     pub place: u32,
     pub expected: Expected,

@@ -1,7 +1,7 @@
 // The two kinds of groups, by name.
 use std::fmt;
 
-#[derive(Clone, Copy)]
+#[derive(Clone, Copy, PartialEq, Eq, Debug)]
 pub enum Kind {
     Residue,
     Circle,

@@ -5,10 +5,12 @@ mod bytes;
 mod fault;
 mod kind;
 mod lines;
+mod unanswered;
 mod words;
 
 pub use bytes::is;
 pub use fault::{Expected, Fault};
 pub use kind::Kind;
 pub use lines::Lines;
+pub use unanswered::Unanswered;
 pub use words::Words;

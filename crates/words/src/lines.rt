@@ -1,5 +1,5 @@
 // The lines of a text, any bytes: what follows the last end of a line is a line if it is not empty.
-ghost use Rattle.std.specs.Prelude.{◌≡◌, length, drop, MatchOption};
+ghost use Rattle.std.specs.Prelude.{◌≡◌, length, MatchOption};
 ghost use Rattle.words.specs.Bytes.{front, after_line};
 ghost use Rattle.words.specs.declared.bytes.Class.TheVariants as classes;
 ghost use Rattle.std.specs.Iterator.{at_most};
@@ -9,15 +9,6 @@ use crate::bytes::{Class, split};
 #[derive(Clone, Copy)]
 pub struct Lines<'a> {
     rest: &'a [u8],
-}
-
-fn without_first(bytes: &[u8]) -> &[u8]
-    ensures { result.now ≡ drop 1 bytes.now }
-{
-    match bytes {
-        [] => bytes,
-        [_first, rest @ ..] => rest,
-    }
 }
 
 impl<'a> Lines<'a> {
@@ -40,7 +31,7 @@ impl<'a> Iterator for Lines<'a> {
             return None;
         }
         let (line, rest) = split(Class::Line, self.rest);
-        self.rest = without_first(rest);
+        self.rest = rest.get(1..).unwrap_or(rest);
         Some(line)
     }
 }

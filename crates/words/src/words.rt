@@ -1,7 +1,9 @@
 // The words of a line, read one after another from its front.
 ghost use Rattle.std.specs.Prelude.{◌≡◌};
 ghost use Rattle.words.specs.Bytes.{front, past};
-ghost use Rattle.words.specs.Words.{word_of, after_word, following, number_at, byte_at, text_of, end_at, numbers_at};
+ghost use Rattle.std.specs.Option.{option_map};
+ghost use Rattle.std.specs.Fn.{FnOnceReturnsAt};
+ghost use Rattle.words.specs.Words.{fault, word_at, after_word, following, ReadsAs, number_at, byte_at, text_of, end_at, numbers_at};
 ghost use Rattle.words.specs.declared.bytes.Class.TheVariants.{Code};
 
 use crate::bytes::{Class, byte, number, split, trimmed};
@@ -32,9 +34,9 @@ impl<'a> Words<'a> {
         self.place
     }
 
-    // The next word; past the last it is empty.
-    pub fn word(&mut self) -> &'a [u8]
-        ensures value { result.now ≡ word_of self.old.rest.now }
+    // The next word; none past the last.
+    pub fn word(&mut self) -> Option<&'a [u8]>
+        ensures value { option_map (λ w. w.now) result ≡ word_at self.old.rest.now }
         ensures after { self.new.rest.now ≡ after_word self.old.rest.now }
         ensures counted { self.new.place ≡ following self.old.place }
     {
@@ -42,7 +44,22 @@ impl<'a> Words<'a> {
         let (word, rest) = split(Class::Word, rest);
         self.rest = rest;
         self.place = self.place.saturating_add(1);
-        word
+        if word.is_empty() { None } else { Some(word) }
+    }
+
+    // The next word as what a function reads it as.
+    pub fn read<T, F: FnOnce(&[u8]) -> Option<T>>(
+        &mut self,
+        expected: Expected,
+        read: F,
+    ) -> Result<T, Fault>
+        requires { F.IsAlwaysCallable read }
+        ensures value { ReadsAs (FnOnceReturnsAt F.FnOnce read) (word_at self.old.rest.now) (fault self.old.place expected) result }
+        ensures after { self.new.rest.now ≡ after_word self.old.rest.now }
+        ensures counted { self.new.place ≡ following self.old.place }
+    {
+        let place = self.place;
+        self.word().and_then(read).ok_or(Fault { place, expected })
     }
 
     // The next word as a number.
@@ -51,11 +68,7 @@ impl<'a> Words<'a> {
         ensures after { self.new.rest.now ≡ after_word self.old.rest.now }
         ensures counted { self.new.place ≡ following self.old.place }
     {
-        let place = self.place;
-        number(self.word()).ok_or(Fault {
-            place,
-            expected: Expected::Number,
-        })
+        self.read(Expected::Number, number)
     }
 
     // The next word as a number below 256.
@@ -64,11 +77,7 @@ impl<'a> Words<'a> {
         ensures after { self.new.rest.now ≡ after_word self.old.rest.now }
         ensures counted { self.new.place ≡ following self.old.place }
     {
-        let place = self.place;
-        byte(self.word()).ok_or(Fault {
-            place,
-            expected: Expected::Byte,
-        })
+        self.read(Expected::Byte, byte)
     }
 
     // What is left of the line, without the blanks before and after it.
@@ -99,8 +108,8 @@ impl<'a> Words<'a> {
         ensures { result ≡ numbers_at N self.old.place self.old.rest.now }
     {
         let mut all = [0; N];
-        for i in 0..N {
-            all[i] = self.number()?;
+        for number in &mut all {
+            *number = self.number()?;
         }
         self.end()?;
         Ok(all)
