@@ -6,7 +6,7 @@ mod descending;
 mod gate;
 mod reading;
 
-pub use answering::{GateReply, answer_gate, obey};
-pub use descending::{SplitReply, answer_split};
+pub use answering::{GateReply, answer_gate, obey, scalar};
+pub use descending::answer_split;
 pub use gate::{Challenges, Children, Gate, GateCommand};
 pub use reading::read;

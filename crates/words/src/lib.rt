@@ -8,7 +8,7 @@ mod lines;
 mod unanswered;
 mod words;
 
-pub use bytes::is;
+pub use bytes::{is, number};
 pub use fault::{Expected, Fault};
 pub use kind::Kind;
 pub use lines::Lines;

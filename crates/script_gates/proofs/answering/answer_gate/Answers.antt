@@ -1,13 +1,5 @@
-use Rattle.std.proofs.Common.{Ok, Err, Result}
-use Rattle.words.specs.declared.fault.Fault.{Fault}
-use Rattle.script_gates.specs.declared.gate.GateCommand.{GateCommand}
-use Rattle.script_gates.specs.declared.answering.GateReply.{GateReply}
-use Rattle.script_gates.specs.GateReplies.{ComesTo, Says}
+use Rattle.words.proofs.Heeding.{unless_fault}
 use Rattle.script_gates.proofs.answering.answer_gate.Goals as goal
 
-told : (c : GateCommand) (r : Result GateReply Fault) → ComesTo c r → Says r
-told c (Ok x) h = (c, h)
-told c (Err why) h = tt
-
-pub returns-in-Ok : goal.returns-in-Ok
-returns-in-Ok c = told c.in-Ok.command c.obey.result c.obey.ensures
+pub returns : goal.returns
+returns c = unless_fault c.obey.result (c.in_ok-read.field-0, c.obey.ensures)
