@@ -1,9 +1,11 @@
 -- Commands on leaf kinds, read from the words of a line.
+--   verb_of w                  the verb that the word w is
 --   verb_at place bs           the first word of bs as a verb
 --   image_from n i             the four numbers of n from the i-th on, as an image
 --   question_at verb place bs  the question of this verb, from the words after the kind's number
 --   kind_command place bs      the command from the words after `kind`
-use Rattle.std.specs.Prelude.{ℕ, ◌+◌, cond, List, Ok, Err, codes, Result}
+use Rattle.std.specs.Prelude.{ℕ, ◌+◌, cond, List, Some, None, Ok, Err, codes, Option, Result}
+use Rattle.std.specs.Str.{bytes_eq}
 use Rattle.kinds.specs.declared.image.Image.{Image}
 use Rattle.words.specs.declared.fault.Fault.{Fault}
 use Rattle.words.specs.declared.fault.Expected.TheVariants.{KindVerb}
@@ -13,19 +15,18 @@ use Rattle.script_kinds.specs.declared.reading.Question.{Question}
 use Rattle.script_kinds.specs.declared.reading.Question.TheVariants as asks
 use Rattle.script_kinds.specs.declared.reading.KindCommand.{KindCommand}
 use Rattle.script_kinds.specs.declared.reading.KindCommand.TheVariants.{Set, Ask}
-use Rattle.words.specs.Bytes.{same}
-use Rattle.words.specs.Words.{fault, word_of, after_word, following, byte_at, end_at, numbers_at, built, at}
+use Rattle.words.specs.Words.{fault, read_at, after_word, following, byte_at, end_at, numbers_at, built, at}
 
-abbrev pub verb_by : ℕ → List ℕ → Result Verb Fault
-verb_by place w =
-    cond (same w (codes "set")) (Ok verbs.Set)
-    (cond (same w (codes "test")) (Ok verbs.Test)
-    (cond (same w (codes "multiply")) (Ok verbs.Multiply)
-    (cond (same w (codes "neutral")) (Ok verbs.Neutral)
-    (cond (same w (codes "key")) (Ok verbs.Key) (cond (same w (codes "power")) (Ok verbs.Power) (Err (fault place KindVerb)))))))
+abbrev pub verb_of : List ℕ → Option Verb
+verb_of w =
+    cond (bytes_eq w (codes "set")) (Some verbs.Set)
+    (cond (bytes_eq w (codes "test")) (Some verbs.Test)
+    (cond (bytes_eq w (codes "multiply")) (Some verbs.Multiply)
+    (cond (bytes_eq w (codes "neutral")) (Some verbs.Neutral)
+    (cond (bytes_eq w (codes "key")) (Some verbs.Key) (cond (bytes_eq w (codes "power")) (Some verbs.Power) None)))))
 
 abbrev pub verb_at : ℕ → List ℕ → Result Verb Fault
-verb_at place bs = verb_by place (word_of bs)
+verb_at place bs = read_at verb_of (fault place KindVerb) bs
 
 abbrev pub image_from : List ℕ → ℕ → Image
 image_from n i = record { 0 = (at n i, at n (i + 1)); 1 = (at n (i + 2), at n (i + 3)) }

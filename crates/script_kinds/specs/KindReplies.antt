@@ -4,7 +4,8 @@
 --   Residues, Circle      the numbers and bases of a residue group and of a circle group
 --   set_over r c          the supplied set over two groups: single, twin and mixed over each
 --   kind_reply r c x      the answer of the supplied set to the command x; refused where the two orders differ
-use Rattle.std.specs.Prelude.{ℕ, cond, List, [], ◌∷◌, ◌++◌, ◌==◌}
+use Rattle.std.specs.Prelude.{ℕ, cond, List, [], ◌∷◌, ◌++◌, Ok, Err, Result, ◌==◌}
+use Rattle.refusals.specs.declared.Refusal.{Refusal}
 use Rattle.refusals.specs.declared.Refusal.TheVariants.{OrdersDiffer}
 use Rattle.fields.specs.Scalars.{scalar}
 use Rattle.groups.specs.Monoids.{power}
@@ -57,5 +58,5 @@ circle_kinds s = three (circle_elements s.0 s.1) (circle_model s.0 s.1 s.2 s.3)
 abbrev pub set_over : Residues → Circle → KindModel
 set_over r c = set_of r.0 (residue_kinds r ++ circle_kinds c)
 
-abbrev pub kind_reply : Residues → Circle → KindCommand → KindReply
-kind_reply r c x = cond (r.0 == c.0) (answer_to (set_over r c) x) (says.Refused OrdersDiffer)
+abbrev pub kind_reply : Residues → Circle → KindCommand → Result KindReply Refusal
+kind_reply r c x = cond (r.0 == c.0) (Ok (answer_to (set_over r c) x)) (Err OrdersDiffer)

@@ -10,9 +10,8 @@ use refusals::Refusal;
 use std::fmt;
 use supplied::supplied;
 
-#[derive(Clone, Copy)]
+#[derive(Clone, Copy, PartialEq, Eq)]
 pub enum KindReply {
-    Refused(Refusal),
     // the order, the number of kinds, and the widths of the first six
     Set(u32, u8, [u8; 6]),
     Test(bool),
@@ -55,19 +54,19 @@ pub fn ask<S: LeafKinds>(set: &S, command: KindCommand) -> KindReply
 }
 
 // What the supplied set over two groups answers; refused where their orders differ.
-pub fn obey(residues: ResidueGroup, circle: CircleGroup, command: KindCommand) -> KindReply
+pub fn obey(
+    residues: ResidueGroup,
+    circle: CircleGroup,
+    command: KindCommand,
+) -> Result<KindReply, Refusal>
     ensures { result ≡ kind_reply (residue_parts residues) (circle_parts circle) command }
 {
-    match supplied(residues, circle) {
-        Ok(set) => ask(&set, command),
-        Err(why) => KindReply::Refused(why),
-    }
+    Ok(ask(&supplied(residues, circle)?, command))
 }
 
 impl fmt::Display for KindReply {
     fn fmt<W: fmt::Write>(&self, f: &mut fmt::Formatter<W>) -> fmt::Result {
         match *self {
-            KindReply::Refused(why) => write!(f, "{why}"),
             KindReply::Set(q, count, widths) => {
                 let [a, b, c, d, s, t] = widths;
                 write!(f, "set q {q} kinds {count} widths {a} {b} {c} {d} {s} {t}")

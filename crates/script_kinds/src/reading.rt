@@ -1,13 +1,12 @@
 // Commands on leaf kinds, read from the words of a line.
 ghost use Rattle.std.specs.Prelude.{◌≡◌};
-ghost use Rattle.words.specs.Words.{after_word, following};
-ghost use Rattle.script_kinds.specs.KindCommands.{verb_at, question_at, kind_command};
+ghost use Rattle.script_kinds.specs.KindCommands.{verb_of, question_at, kind_command};
 
 use kinds::Image;
-use words::{Expected, Fault, Words, is};
+use words::{Expected, Fault, Words};
 
 // What is asked of one kind.
-#[derive(Clone, Copy)]
+#[derive(Clone, Copy, PartialEq, Eq)]
 pub enum Question {
     // are these words an image?
     Test(Image),
@@ -21,7 +20,7 @@ pub enum Question {
     Power(Image, u32),
 }
 
-#[derive(Clone, Copy)]
+#[derive(Clone, Copy, PartialEq, Eq)]
 pub enum KindCommand {
     // what the set is
     Set,
@@ -30,7 +29,7 @@ pub enum KindCommand {
 }
 
 // The second word of a command on leaf kinds.
-#[derive(Clone, Copy)]
+#[derive(Clone, Copy, PartialEq, Eq, Debug)]
 pub enum Verb {
     Set,
     Test,
@@ -40,30 +39,17 @@ pub enum Verb {
     Power,
 }
 
-fn read_verb(words: &mut Words) -> Result<Verb, Fault>
-    ensures value { result ≡ verb_at words.old.place words.old.rest.now }
-    ensures after { words.new.rest.now ≡ after_word words.old.rest.now }
-    ensures counted { words.new.place ≡ following words.old.place }
+fn read_verb(word: &[u8]) -> Option<Verb>
+    ensures { result ≡ verb_of word.now }
 {
-    let place = words.place();
-    let word = words.word();
-    if is(word, "set") {
-        Ok(Verb::Set)
-    } else if is(word, "test") {
-        Ok(Verb::Test)
-    } else if is(word, "multiply") {
-        Ok(Verb::Multiply)
-    } else if is(word, "neutral") {
-        Ok(Verb::Neutral)
-    } else if is(word, "key") {
-        Ok(Verb::Key)
-    } else if is(word, "power") {
-        Ok(Verb::Power)
-    } else {
-        Err(Fault {
-            place,
-            expected: Expected::KindVerb,
-        })
+    match word {
+        b"set" => Some(Verb::Set),
+        b"test" => Some(Verb::Test),
+        b"multiply" => Some(Verb::Multiply),
+        b"neutral" => Some(Verb::Neutral),
+        b"key" => Some(Verb::Key),
+        b"power" => Some(Verb::Power),
+        _ => None,
     }
 }
 
@@ -99,8 +85,8 @@ fn read_question(verb: Verb, words: &mut Words) -> Result<Question, Fault>
 pub fn read(words: &mut Words) -> Result<KindCommand, Fault>
     ensures { result ≡ kind_command words.old.place words.old.rest.now }
 {
-    let verb = read_verb(words)?;
-    if let Verb::Set = verb {
+    let verb = words.read(Expected::KindVerb, read_verb)?;
+    if verb == Verb::Set {
         words.end()?;
         return Ok(KindCommand::Set);
     }
