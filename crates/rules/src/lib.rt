@@ -14,4 +14,4 @@ pub use again::{reread, rewrite};
 pub use entry::{Children, Entry};
 pub use reading::read;
 pub use table::Table;
-pub use writing::{text_length, write};
+pub use writing::{Text, spelled, text_length, write};

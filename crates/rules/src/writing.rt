@@ -13,7 +13,7 @@ use bounded::Row;
 use refusals::Refusal;
 
 // A text as it is written.
-type Text = Row<u8, MOST_BYTES>;
+pub type Text = Row<u8, MOST_BYTES>;
 
 #[tactic(auto, unfolding(crate::specs::Grammar::decimal))]
 fn spell_number(n: u8, text: &mut Text)
@@ -87,7 +87,7 @@ fn spell_items(entries: &[Entry], children: &[u8], depth: u8, text: &mut Text)
 }
 
 // The text of a table.
-fn spelled(table: &Table) -> Text
+pub fn spelled(table: &Table) -> Text
     ensures { Written (rows_in table.now) (items result) }
 {
     let mut text = Text::blank(0);

@@ -1,3 +1,2 @@
 pub mod RuleCommands
-pub mod ShownTexts
 pub mod RuleReplies

@@ -1,35 +1,32 @@
 // What a command on rules is answered.
 ghost use Rattle.rules.specs.Texts.{rows_in};
-ghost use Rattle.script_rules.specs.RuleReplies.{Shows, Reading, Writing};
+ghost use Rattle.script_rules.specs.RuleReplies.{ShownAs, Reading, Writing};
 
-use crate::text::Text;
+use bounded::Row;
 use refusals::Refusal;
-use rules::{Table, read};
-use script_gates::SplitReply;
+use rules::{Table, Text, read, spelled};
+use script_gates::Challenges;
 
 #[derive(Clone, Copy)]
 pub enum RuleReply {
     // the rule that was read
     Tree(Table),
-    // why a text is no rule, and the text
-    Faulty(Refusal, Text),
-    // the same for a text that is not shown: it has no byte, or more than 240
-    Refused(Refusal),
+    // why a text is no rule, and the text where it is shown
+    Faulty(Refusal, Option<Text>),
     // the text of the rule
     Text(Text),
-    // what splitting down the rule comes to
-    Split(SplitReply),
+    // what the rule's entries get where a challenge is split down it
+    Split(Challenges),
 }
 
-fn faulty(text: &[u8], why: Refusal) -> RuleReply
-    ensures { Shows text.now why result }
+// A text as it is shown: none where it has no byte, or more than 240.
+fn shown(text: &[u8]) -> Option<Text>
+    ensures { ShownAs text.now result }
 {
-    if text.is_empty() {
-        return RuleReply::Refused(why);
-    }
-    match Text::copied(text) {
-        Some(copy) => RuleReply::Faulty(why, copy),
-        None => RuleReply::Refused(why),
+    if (1..=240).contains(&text.len()) {
+        Some(Row::of(0, text))
+    } else {
+        None
     }
 }
 
@@ -39,7 +36,7 @@ pub fn read_rule(text: &[u8]) -> RuleReply
 {
     match read(text) {
         Ok(table) => RuleReply::Tree(table),
-        Err(why) => faulty(text, why),
+        Err(why) => RuleReply::Faulty(why, shown(text)),
     }
 }
 
@@ -47,8 +44,5 @@ pub fn read_rule(text: &[u8]) -> RuleReply
 pub fn write_rule(table: &Table) -> RuleReply
     ensures { Writing (rows_in table.now) result }
 {
-    match Text::written(table) {
-        Ok(text) => RuleReply::Text(text),
-        Err(why) => RuleReply::Refused(why),
-    }
+    RuleReply::Text(spelled(table))
 }

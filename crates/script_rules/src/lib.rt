@@ -2,11 +2,8 @@
 #![tactic(auto)]
 
 mod answering;
-mod copying;
 mod reading;
 mod shown;
-mod text;
 
 pub use answering::{RuleReply, read_rule, write_rule};
 pub use reading::{RuleCommand, read, rule_text};
-pub use text::Text;

@@ -1,36 +1,25 @@
 // Commands on rules, read from the words of a line.
 ghost use Rattle.std.specs.Prelude.{◌≡◌};
-ghost use Rattle.words.specs.Words.{after_word, following};
-ghost use Rattle.script_rules.specs.RuleCommands.{verb_at, rule_command, rule_text as spelt};
+ghost use Rattle.script_rules.specs.RuleCommands.{verb_of, rule_command, rule_text as spelt};
 
-use words::{Expected, Fault, Words, is};
+use words::{Expected, Fault, Words};
 
 // The text of a rule that is read is what follows in the line, and so are the numbers of a split.
-#[derive(Clone, Copy)]
+#[derive(Clone, Copy, PartialEq, Eq, Debug)]
 pub enum RuleCommand {
     Read,
     Write,
     Split,
 }
 
-fn read_verb(words: &mut Words) -> Result<RuleCommand, Fault>
-    ensures value { result ≡ verb_at words.old.place words.old.rest.now }
-    ensures after { words.new.rest.now ≡ after_word words.old.rest.now }
-    ensures counted { words.new.place ≡ following words.old.place }
+fn read_verb(word: &[u8]) -> Option<RuleCommand>
+    ensures { result ≡ verb_of word.now }
 {
-    let place = words.place();
-    let word = words.word();
-    if is(word, "read") {
-        Ok(RuleCommand::Read)
-    } else if is(word, "write") {
-        Ok(RuleCommand::Write)
-    } else if is(word, "split") {
-        Ok(RuleCommand::Split)
-    } else {
-        Err(Fault {
-            place,
-            expected: Expected::RuleVerb,
-        })
+    match word {
+        b"read" => Some(RuleCommand::Read),
+        b"write" => Some(RuleCommand::Write),
+        b"split" => Some(RuleCommand::Split),
+        _ => None,
     }
 }
 
@@ -38,14 +27,11 @@ fn read_verb(words: &mut Words) -> Result<RuleCommand, Fault>
 pub fn read(words: &mut Words) -> Result<RuleCommand, Fault>
     ensures { result ≡ rule_command words.old.place words.old.rest.now }
 {
-    match read_verb(words)? {
-        RuleCommand::Read => Ok(RuleCommand::Read),
-        RuleCommand::Write => {
-            words.end()?;
-            Ok(RuleCommand::Write)
-        }
-        RuleCommand::Split => Ok(RuleCommand::Split),
+    let command = words.read(Expected::RuleVerb, read_verb)?;
+    if command == RuleCommand::Write {
+        words.end()?;
     }
+    Ok(command)
 }
 
 // The text of the rule in a line `rule read TEXT`.

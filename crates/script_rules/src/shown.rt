@@ -1,15 +1,13 @@
 // How the replies to commands on rules are shown.
 use crate::answering::RuleReply;
-use crate::text::Text;
-use rules::{Children, Entry, Table};
+use rules::{Entry, Table, spelled};
 use std::fmt;
 
 // A byte that is no printable ASCII is shown as `?`.
 fn printable(byte: u8) -> char {
-    if byte >= 32 && byte < 127 {
-        byte as char
-    } else {
-        '?'
+    match byte {
+        b' '..=b'~' => byte.into(),
+        _ => '?',
     }
 }
 
@@ -28,16 +26,9 @@ fn write_spaces<W: fmt::Write>(f: &mut fmt::Formatter<W>, count: u32) -> fmt::Re
     Ok(())
 }
 
-fn write_children<W: fmt::Write>(f: &mut fmt::Formatter<W>, children: &Children) -> fmt::Result {
-    for position in children.as_slice() {
-        write!(f, " {position}")?;
-    }
-    Ok(())
-}
-
 // Notes that the children stand one further in than their gate.
-fn note_depths(depths: &mut [u8], children: &Children, depth: u8) {
-    for position in children.as_slice() {
+fn note_depths(depths: &mut [u8], children: &[u8], depth: u8) {
+    for position in children {
         if let Some(slot) = depths.get_mut(*position as usize) {
             *slot = depth.saturating_add(1);
         }
@@ -57,34 +48,28 @@ fn write_entry<W: fmt::Write>(
         } => {
             let count = children.len();
             write!(f, "{position} {threshold} of {count}:")?;
-            write_children(f, children)
+            for child in children.as_slice() {
+                write!(f, " {child}")?;
+            }
+            Ok(())
         }
     }
 }
 
 // One line an entry, each two spaces further in than its gate.
-fn write_entries<W: fmt::Write>(
-    f: &mut fmt::Formatter<W>,
-    table: &Table,
-    depths: &mut [u8],
-) -> fmt::Result {
-    for position in 0..table.len() {
-        let Some(entry) = table.entry(position) else {
-            return Ok(());
-        };
-        let depth = match depths.get(position) {
-            Some(depth) => *depth,
-            None => 0,
-        };
+fn write_entries<W: fmt::Write>(f: &mut fmt::Formatter<W>, entries: &[Entry]) -> fmt::Result {
+    let mut depths = [0u8; 31];
+    for (position, entry) in entries.iter().enumerate() {
+        let depth = depths.get(position).copied().unwrap_or(0);
         write!(f, "\n")?;
-        write_spaces(f, (depth as u32).saturating_mul(2))?;
-        write_entry(f, &entry, position)?;
+        write_spaces(f, u32::from(depth).saturating_mul(2))?;
+        write_entry(f, entry, position)?;
         if let Entry::Gate {
             threshold: _,
             children,
         } = entry
         {
-            note_depths(depths, &children, depth);
+            note_depths(&mut depths, children, depth);
         }
     }
     Ok(())
@@ -92,33 +77,30 @@ fn write_entries<W: fmt::Write>(
 
 fn write_tree<W: fmt::Write>(f: &mut fmt::Formatter<W>, table: &Table) -> fmt::Result {
     write!(f, "rule ")?;
-    if let Ok(text) = Text::written(table) {
-        write_bytes(f, text.as_slice())?;
-    }
+    write_bytes(f, &spelled(table))?;
     let entries = table.len();
     let leaves = table.leaf_count();
     write!(f, " entries {entries} leaves {leaves}")?;
-    let mut depths = [0; 31];
-    write_entries(f, table, &mut depths)
+    write_entries(f, table.entries())
 }
 
 impl fmt::Display for RuleReply {
     fn fmt<W: fmt::Write>(&self, f: &mut fmt::Formatter<W>) -> fmt::Result {
         match self {
             RuleReply::Tree(table) => write_tree(f, table),
-            RuleReply::Faulty(why, text) => {
+            RuleReply::Faulty(why, None) => write!(f, "{why}"),
+            RuleReply::Faulty(why, Some(text)) => {
                 write!(f, "{why}\n")?;
-                write_bytes(f, text.as_slice())?;
+                write_bytes(f, text)?;
                 write!(f, "\n")?;
                 write_spaces(f, why.place())?;
                 write!(f, "^")
             }
-            RuleReply::Refused(why) => write!(f, "{why}"),
             RuleReply::Text(text) => {
                 write!(f, "text ")?;
-                write_bytes(f, text.as_slice())
+                write_bytes(f, text)
             }
-            RuleReply::Split(reply) => write!(f, "{reply}"),
+            RuleReply::Split(challenges) => write!(f, "{challenges}"),
         }
     }
 }
