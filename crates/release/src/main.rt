@@ -5,7 +5,7 @@ use anyhow::anyhow;
 use script::Session;
 use std::io::{BufWriter, Read, Write};
 use std::{env, fs};
-use words::Lines;
+use words::{Lines, Unanswered};
 
 fn input(rt: &HostRuntime) -> anyhow::Result<Vec<u8>> {
     let mut args = env::args(rt)?;
@@ -25,13 +25,12 @@ fn run(rt: &HostRuntime) -> anyhow::Result<()> {
     let text = input(rt)?;
     let mut out = BufWriter::new(rt.alloc(), rt.stdout())?;
     let mut session = Session::new();
-    let mut number: u64 = 0;
-    for line in Lines::new(&text) {
-        number = number.saturating_add(1);
+    for (number, line) in (1u64..).zip(Lines::new(&text)) {
         match session.answer(line) {
             Ok(Some(reply)) => writeln!(out, "{reply}")?,
             Ok(None) => {}
-            Err(fault) => writeln!(out, "line {number}: {fault}")?,
+            Err(Unanswered::Fault(fault)) => writeln!(out, "line {number}: {fault}")?,
+            Err(Unanswered::Refused(why)) => writeln!(out, "{why}")?,
         }
     }
     out.flush()?;

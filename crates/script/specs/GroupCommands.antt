@@ -1,9 +1,11 @@
 -- Commands on groups, read from the words of a line.
 --   verb_of w                      the verb that the word w is
+--   kind_of w                      the kind of groups that the word w names
 --   kind_at place bs               the first word of bs as the kind of a group
 --   command_at verb kind place bs  the command of this verb and kind, from the numbers after them
 --   group_command verb place bs    the command of this verb, from the words after it
 use Rattle.std.specs.Prelude.{ℕ, cond, List, Some, None, Ok, Err, codes, Option, Result}
+use Rattle.std.specs.Str.{bytes_eq}
 use Rattle.words.specs.declared.kind.Kind as kinds
 use Rattle.words.specs.declared.kind.Kind.TheVariants.{Residue, Circle}
 use Rattle.words.specs.declared.fault.Fault.{Fault}
@@ -13,18 +15,19 @@ use Rattle.script.specs.declared.group_commands.Verb.{Verb}
 use Rattle.script.specs.declared.group_commands.Verb.TheVariants as verbs
 use Rattle.script.specs.declared.group_commands.GroupCommand.{GroupCommand}
 use Rattle.script.specs.declared.group_commands.GroupCommand.TheVariants.{MakeResidue, MakeCircle, Ask}
-use Rattle.words.specs.Bytes.{same}
-use Rattle.words.specs.Words.{fault, word_of, after_word, following, numbers_at, built, at}
+use Rattle.words.specs.Words.{fault, read_at, after_word, following, numbers_at, built, at}
 
 abbrev pub verb_of : List ℕ → Option Verb
 verb_of w =
-    cond (same w (codes "group")) (Some verbs.Make)
-    (cond (same w (codes "element")) (Some verbs.Element)
-    (cond (same w (codes "multiply")) (Some verbs.Multiply) (cond (same w (codes "power")) (Some verbs.Power) None)))
+    cond (bytes_eq w (codes "group")) (Some verbs.Make)
+    (cond (bytes_eq w (codes "element")) (Some verbs.Element)
+    (cond (bytes_eq w (codes "multiply")) (Some verbs.Multiply) (cond (bytes_eq w (codes "power")) (Some verbs.Power) None)))
+
+abbrev pub kind_of : List ℕ → Option kinds.Kind
+kind_of w = cond (bytes_eq w (codes "residue")) (Some Residue) (cond (bytes_eq w (codes "circle")) (Some Circle) None)
 
 abbrev pub kind_at : ℕ → List ℕ → Result kinds.Kind Fault
-kind_at place bs =
-    cond (same (word_of bs) (codes "residue")) (Ok Residue) (cond (same (word_of bs) (codes "circle")) (Ok Circle) (Err (fault place AKind)))
+kind_at place bs = read_at kind_of (fault place AKind) bs
 
 abbrev pub make_residue : List ℕ → GroupCommand
 make_residue n = MakeResidue (at n 0) (at n 1) (at n 2) (at n 3)

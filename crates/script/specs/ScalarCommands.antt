@@ -1,32 +1,35 @@
 -- Commands on scalars: how they are read, and what they come to.
+--   operation_of w             the operation that the word w names
 --   operation_at place bs      the first word of bs as an operation
 --   scalar_command place bs    the command from the words after `scalar`
---   scalar_at q place n        n as a scalar modulo q; it stands at this place of the line
 --   order_refusal q            the reply where no scalars count modulo q
 --   Computed op q a b r        r is what the operation on a and b modulo q comes to
 --   Answered op q a b r        the same, where a and b may be no scalars
 --   ComesTo c r               r is the answer to the command c
-use Rattle.std.specs.Prelude.{◌≡◌, ℕ, ◌<◌, Bool, true, false, cond, T, List, Ok, Err, codes, MatchBool, Result, ◌==◌, nat_lt}
+use Rattle.std.specs.Prelude.{◌≡◌, ℕ, ◌<◌, Bool, true, false, cond, T, List, Some, None, Ok, Err, codes, MatchBool, Option, Result, ◌==◌, nat_lt}
+use Rattle.std.specs.Str.{bytes_eq}
 use Rattle.refusals.specs.declared.Parameter.TheVariants.{Order}
 use Rattle.refusals.specs.declared.Refusal.TheVariants.{OutOfRange, NotPrime}
-use Rattle.fields.specs.declared.scalar.Scalar as scalars
 use Rattle.fields.specs.Modular.{sum_mod, product_mod}
 use Rattle.fields.specs.Primes.{Prime, in_range}
-use Rattle.fields.specs.Scalars.{scalar}
 use Rattle.words.specs.declared.fault.Fault.{Fault}
 use Rattle.words.specs.declared.fault.Expected.TheVariants as wants
 use Rattle.script.specs.declared.scalar_commands.Operation.{Operation}
 use Rattle.script.specs.declared.scalar_commands.Operation.TheVariants.{Add, Multiply, Divide}
 use Rattle.script.specs.declared.scalar_commands.ScalarCommand.{ScalarCommand}
 use Rattle.script.specs.declared.scalar_commands.ScalarReply.{ScalarReply}
-use Rattle.script.specs.declared.scalar_commands.ScalarReply.TheVariants.{Refused, Sum, Product, Quotient}
-use Rattle.words.specs.Bytes.{same}
-use Rattle.words.specs.Words.{fault, word_of, after_word, following, numbers_at, built, at}
+use Rattle.script.specs.declared.scalar_commands.ScalarReply.TheVariants.{Sum, Product, Quotient}
+use Rattle.words.specs.declared.unanswered.Unanswered.{Unanswered}
+use Rattle.words.specs.declared.unanswered.Unanswered.TheVariants.{Refused}
+use Rattle.words.specs.Unanswered.{faulty}
+use Rattle.words.specs.Words.{fault, read_at, after_word, following, numbers_at, built, at}
+
+abbrev pub operation_of : List ℕ → Option Operation
+operation_of w =
+    cond (bytes_eq w (codes "add")) (Some Add) (cond (bytes_eq w (codes "multiply")) (Some Multiply) (cond (bytes_eq w (codes "divide")) (Some Divide) None))
 
 abbrev pub operation_at : ℕ → List ℕ → Result Operation Fault
-operation_at place bs =
-    cond (same (word_of bs) (codes "add")) (Ok Add)
-    (cond (same (word_of bs) (codes "multiply")) (Ok Multiply) (cond (same (word_of bs) (codes "divide")) (Ok Divide) (Err (fault place wants.Operation))))
+operation_at place bs = read_at operation_of (fault place wants.Operation) bs
 
 abbrev pub command_with : Operation → List ℕ → ScalarCommand
 command_with op n = record { operation = op; q = at n 0; a = at n 1; b = at n 2 }
@@ -38,11 +41,8 @@ command_of_operation (Ok op) place bs = built (command_with op) (numbers_at 3 pl
 abbrev pub scalar_command : ℕ → List ℕ → Result ScalarCommand Fault
 scalar_command place bs = command_of_operation (operation_at place bs) (following place) (after_word bs)
 
-abbrev pub scalar_at : ℕ → ℕ → ℕ → Result scalars.Scalar Fault
-scalar_at q place n = cond (nat_lt n q) (Ok (scalar n)) (Err (fault place wants.Scalar))
-
-abbrev pub order_refusal : ℕ → Result ScalarReply Fault
-order_refusal q = Ok (Refused (cond (in_range q) NotPrime (OutOfRange Order)))
+abbrev pub order_refusal : ℕ → Result ScalarReply Unanswered
+order_refusal q = Err (Refused (cond (in_range q) NotPrime (OutOfRange Order)))
 
 -- a quotient is the scalar that times the divisor is the dividend
 abbrev pub Divided : Bool → ℕ → ℕ → ℕ → Result ScalarReply Fault → Type 0
@@ -57,6 +57,6 @@ Computed Divide q a b r = Divided (b == 0) q a b r
 abbrev pub Answered : Operation → ℕ → ℕ → ℕ → Result ScalarReply Fault → Type 0
 Answered op q a b r = MatchBool (nat_lt a q) (MatchBool (nat_lt b q) (Computed op q a b r) (r ≡ Err (fault 5 wants.Scalar))) (r ≡ Err (fault 4 wants.Scalar))
 
-pub record ComesTo (c : ScalarCommand) (r : Result ScalarReply Fault) : Type 0 where
+pub record ComesTo (c : ScalarCommand) (r : Result ScalarReply Unanswered) : Type 0 where
   pub refused : (T (in_range c.q) → Prime c.q → ⊥) → r ≡ order_refusal c.q
-  pub answered : T (in_range c.q) → Prime c.q → Answered c.operation c.q c.a c.b r
+  pub answered : T (in_range c.q) → Prime c.q → (x : Result ScalarReply Fault) × (r ≡ faulty x) × Answered c.operation c.q c.a c.b x

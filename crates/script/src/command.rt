@@ -1,6 +1,6 @@
 // A line's command, and what comes of it.
 ghost use Rattle.std.specs.Prelude.{◌≡◌};
-ghost use Rattle.script.specs.Commands.{topic_of, command_about, command_of};
+ghost use Rattle.script.specs.Commands.{other_topic, topic_of, command_about, command_of};
 
 use crate::group_commands::{GroupCommand, GroupReply, Verb};
 use crate::scalar_commands::{ScalarCommand, ScalarReply};
@@ -9,7 +9,7 @@ use script_gates::GateReply;
 use script_kinds::{KindCommand, KindReply};
 use script_rules::{RuleCommand, RuleReply};
 use std::fmt;
-use words::{Expected, Fault, Words, is};
+use words::{Expected, Fault, Words};
 
 #[derive(Clone, Copy)]
 pub enum Command {
@@ -31,7 +31,7 @@ pub enum Reply {
 }
 
 // What a command is about, by its first word.
-#[derive(Clone, Copy)]
+#[derive(Clone, Copy, PartialEq, Eq, Debug)]
 pub enum Topic {
     Group(Verb),
     Scalar,
@@ -40,22 +40,24 @@ pub enum Topic {
     Gate,
 }
 
+// A topic but groups, whose commands begin with a verb.
+fn read_other(word: &[u8]) -> Option<Topic>
+    ensures { result ≡ other_topic word.now }
+{
+    match word {
+        b"scalar" => Some(Topic::Scalar),
+        b"kind" => Some(Topic::Kind),
+        b"rule" => Some(Topic::Rule),
+        b"gate" => Some(Topic::Gate),
+        _ => None,
+    }
+}
+
 fn read_topic(word: &[u8]) -> Option<Topic>
     ensures { result ≡ topic_of word.now }
 {
-    if let Some(verb) = group_commands::read_verb(word) {
-        Some(Topic::Group(verb))
-    } else if is(word, "scalar") {
-        Some(Topic::Scalar)
-    } else if is(word, "kind") {
-        Some(Topic::Kind)
-    } else if is(word, "rule") {
-        Some(Topic::Rule)
-    } else if is(word, "gate") {
-        Some(Topic::Gate)
-    } else {
-        None
-    }
+    let group = group_commands::read_verb(word).map(Topic::Group);
+    group.or(read_other(word))
 }
 
 fn read_about(topic: Topic, words: &mut Words) -> Result<Command, Fault>
@@ -75,18 +77,14 @@ pub fn read(line: &[u8]) -> Result<Option<Command>, Fault>
     ensures { result ≡ command_of line.now }
 {
     let mut words = Words::new(line);
-    let first = words.word();
-    if first.is_empty() {
+    let Some(first) = words.word() else {
         return Ok(None);
-    }
-    let Some(topic) = read_topic(first) else {
-        return Err(Fault {
-            place: 1,
-            expected: Expected::Command,
-        });
     };
-    let command = read_about(topic, &mut words)?;
-    Ok(Some(command))
+    let topic = read_topic(first).ok_or(Fault {
+        place: 1,
+        expected: Expected::Command,
+    })?;
+    Ok(Some(read_about(topic, &mut words)?))
 }
 
 impl fmt::Display for Reply {

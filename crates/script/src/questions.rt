@@ -7,7 +7,7 @@ use groups::{Group, power};
 use words::{Expected, Fault, Kind};
 
 // Elements are given by their two words.
-#[derive(Clone, Copy)]
+#[derive(Clone, Copy, PartialEq, Eq, Debug)]
 pub enum Question {
     // are these words an element?
     Element((u32, u32)),

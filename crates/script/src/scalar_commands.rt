@@ -1,21 +1,20 @@
 // Commands on scalars: a sum, a product or a quotient modulo q.
 ghost use Rattle.std.specs.Prelude.{◌≡◌, ◌<◌};
-ghost use Rattle.words.specs.Words.{after_word, following};
-ghost use Rattle.script.specs.ScalarCommands.{operation_at, scalar_command, scalar_at, Computed, Answered, ComesTo};
+ghost use Rattle.script.specs.ScalarCommands.{operation_of, scalar_command, Computed, Answered, ComesTo};
 
 use fields::{Field, Scalar, Scalars};
-use refusals::Refusal;
+use script_gates::scalar;
 use std::fmt;
-use words::{Expected, Fault, Words, is};
+use words::{Expected, Fault, Unanswered, Words};
 
-#[derive(Clone, Copy)]
+#[derive(Clone, Copy, PartialEq, Eq, Debug)]
 pub enum Operation {
     Add,
     Multiply,
     Divide,
 }
 
-#[derive(Clone, Copy)]
+#[derive(Clone, Copy, PartialEq, Eq, Debug)]
 pub struct ScalarCommand {
     pub operation: Operation,
     pub q: u32,
@@ -23,32 +22,21 @@ pub struct ScalarCommand {
     pub b: u32,
 }
 
-#[derive(Clone, Copy)]
+#[derive(Clone, Copy, PartialEq, Eq, Debug)]
 pub enum ScalarReply {
-    Refused(Refusal),
     Sum(u32),
     Product(u32),
     Quotient(u32),
 }
 
-fn read_operation(words: &mut Words) -> Result<Operation, Fault>
-    ensures value { result ≡ operation_at words.old.place words.old.rest.now }
-    ensures after { words.new.rest.now ≡ after_word words.old.rest.now }
-    ensures counted { words.new.place ≡ following words.old.place }
+fn read_operation(word: &[u8]) -> Option<Operation>
+    ensures { result ≡ operation_of word.now }
 {
-    let place = words.place();
-    let word = words.word();
-    if is(word, "add") {
-        Ok(Operation::Add)
-    } else if is(word, "multiply") {
-        Ok(Operation::Multiply)
-    } else if is(word, "divide") {
-        Ok(Operation::Divide)
-    } else {
-        Err(Fault {
-            place,
-            expected: Expected::Operation,
-        })
+    match word {
+        b"add" => Some(Operation::Add),
+        b"multiply" => Some(Operation::Multiply),
+        b"divide" => Some(Operation::Divide),
+        _ => None,
     }
 }
 
@@ -56,23 +44,9 @@ fn read_operation(words: &mut Words) -> Result<Operation, Fault>
 pub fn read(words: &mut Words) -> Result<ScalarCommand, Fault>
     ensures { result ≡ scalar_command words.old.place words.old.rest.now }
 {
-    let operation = read_operation(words)?;
+    let operation = words.read(Expected::Operation, read_operation)?;
     let [q, a, b] = words.numbers::<3>()?;
     Ok(ScalarCommand { operation, q, a, b })
-}
-
-// The number at a place of the line as a scalar.
-fn operand(scalars: &Scalars, place: u32, value: u32) -> Result<Scalar, Fault>
-    ensures { result ≡ scalar_at scalars.now.q place value }
-{
-    if value < scalars.order() {
-        Ok(Scalar::new(value))
-    } else {
-        Err(Fault {
-            place,
-            expected: Expected::Scalar,
-        })
-    }
 }
 
 fn compute(
@@ -102,25 +76,22 @@ fn compute(
 fn answer(scalars: &Scalars, command: ScalarCommand) -> Result<ScalarReply, Fault>
     ensures { Answered command.operation scalars.now.q command.a command.b result }
 {
-    let a = operand(scalars, 4, command.a)?;
-    let b = operand(scalars, 5, command.b)?;
+    let a = scalar(scalars, 4, command.a)?;
+    let b = scalar(scalars, 5, command.b)?;
     compute(scalars, command.operation, a, b)
 }
 
 // What a command on scalars comes to: refused where q is out of range or no prime.
-pub fn obey(command: ScalarCommand) -> Result<ScalarReply, Fault>
+pub fn obey(command: ScalarCommand) -> Result<ScalarReply, Unanswered>
     ensures { ComesTo command result }
 {
-    match Scalars::new(command.q) {
-        Ok(scalars) => answer(&scalars, command),
-        Err(why) => Ok(ScalarReply::Refused(why)),
-    }
+    let scalars = Scalars::new(command.q)?;
+    Ok(answer(&scalars, command)?)
 }
 
 impl fmt::Display for ScalarReply {
     fn fmt<W: fmt::Write>(&self, f: &mut fmt::Formatter<W>) -> fmt::Result {
         match *self {
-            ScalarReply::Refused(why) => write!(f, "{why}"),
             ScalarReply::Sum(n) => write!(f, "sum {n}"),
             ScalarReply::Product(n) => write!(f, "product {n}"),
             ScalarReply::Quotient(n) => write!(f, "quotient {n}"),

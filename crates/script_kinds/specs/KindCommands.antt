@@ -43,34 +43,25 @@ ask_key n = asks.Key (at n 0, at n 1)
 abbrev pub ask_power : List ℕ → Question
 ask_power n = asks.Power (image_from n 0) (at n 4)
 
--- what stands at the end of a line
-abbrev pub ended : {X : Type 0} → X → Result (Unit {0}) Fault → Result X Fault
-ended x (Ok u) = Ok x
-ended x (Err why) = Err why
-
 abbrev pub question_at : Verb → ℕ → List ℕ → Result Question Fault
-question_at verbs.Set place bs = ended asks.Neutral (end_at place bs)
+question_at verbs.Set place bs = built (λ u. asks.Neutral) (end_at place bs)
 question_at verbs.Test place bs = built ask_test (numbers_at 4 place bs)
 question_at verbs.Multiply place bs = built ask_product (numbers_at 8 place bs)
-question_at verbs.Neutral place bs = ended asks.Neutral (end_at place bs)
+question_at verbs.Neutral place bs = built (λ u. asks.Neutral) (end_at place bs)
 question_at verbs.Key place bs = built ask_key (numbers_at 2 place bs)
 question_at verbs.Power place bs = built ask_power (numbers_at 5 place bs)
-
-abbrev pub asked : ℕ → Result Question Fault → Result KindCommand Fault
-asked kind (Ok question) = Ok (Ask kind question)
-asked kind (Err why) = Err why
 
 -- the question to the kind whose number was read
 abbrev pub ask_of : Verb → Result ℕ Fault → ℕ → List ℕ → Result KindCommand Fault
 ask_of verb (Err why) place bs = Err why
-ask_of verb (Ok kind) place bs = asked kind (question_at verb place bs)
+ask_of verb (Ok kind) place bs = built (Ask kind) (question_at verb place bs)
 
 abbrev pub ask_at : Verb → ℕ → List ℕ → Result KindCommand Fault
 ask_at verb place bs = ask_of verb (byte_at place bs) (following place) (after_word bs)
 
 abbrev pub command_of_verb : Result Verb Fault → ℕ → List ℕ → Result KindCommand Fault
 command_of_verb (Err why) place bs = Err why
-command_of_verb (Ok verbs.Set) place bs = ended Set (end_at place bs)
+command_of_verb (Ok verbs.Set) place bs = built (λ u. Set) (end_at place bs)
 command_of_verb (Ok verbs.Test) place bs = ask_at verbs.Test place bs
 command_of_verb (Ok verbs.Multiply) place bs = ask_at verbs.Multiply place bs
 command_of_verb (Ok verbs.Neutral) place bs = ask_at verbs.Neutral place bs

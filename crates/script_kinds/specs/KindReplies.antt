@@ -1,7 +1,8 @@
 -- What a set of leaf kinds answers to a command.
 --   question_reply m n x  the answer of the kind n of the set m to a question
 --   answer_to m c         the answer of the set m, over its meaning
---   Residues, Circle      the numbers and bases of a residue group and of a circle group
+--   Parts E               the numbers and bases of a group whose elements are in E
+--   kinds_over a s        the three kinds over the group with these parts that is cut from a
 --   set_over r c          the supplied set over two groups: single, twin and mixed over each
 --   kind_reply r c x      the answer of the supplied set to the command x; refused where the two orders differ
 use Rattle.std.specs.Prelude.{ℕ, cond, List, [], ◌∷◌, ◌++◌, Ok, Err, Result, ◌==◌}
@@ -9,10 +10,11 @@ use Rattle.refusals.specs.declared.Refusal.{Refusal}
 use Rattle.refusals.specs.declared.Refusal.TheVariants.{OrdersDiffer}
 use Rattle.fields.specs.Scalars.{scalar}
 use Rattle.groups.specs.Monoids.{power}
-use Rattle.groups.specs.declared.residue.Residue as residues
-use Rattle.groups.specs.PrimeGroups.{ResidueGroup, CircleGroup}
-use Rattle.groups.specs.Residues.{residue_elements, residue_model}
-use Rattle.groups.specs.Circles.{Pair, circle_elements, circle_model}
+use Rattle.groups.specs.declared.residue.Residue.{Residue}
+use Rattle.groups.specs.Ambients.{AmbientModel, group_elements, group_model}
+use Rattle.groups.specs.declared.prime_group.PrimeGroup.{PrimeGroup}
+use Rattle.groups.specs.Residues.{residues}
+use Rattle.groups.specs.Circles.{Pair, circle}
 use Rattle.kinds.specs.Kinds.{Kind, KindModel, images}
 use Rattle.kinds.specs.Numbered.{set_of}
 use Rattle.supplied.specs.Supplied.{three}
@@ -37,26 +39,18 @@ abbrev pub answer_to : KindModel → KindCommand → KindReply
 answer_to m Set = says.Set m.q m.count (widths m)
 answer_to m (Ask n question) = question_reply m n question
 
-abbrev pub Residues : Type 0
-Residues = ℕ × ℕ × residues.Residue × residues.Residue
+abbrev pub Parts : Type 0 → Type 0
+Parts E = ℕ × ℕ × E × E
 
-abbrev pub Circle : Type 0
-Circle = ℕ × ℕ × Pair × Pair
+abbrev pub parts : {E P : Type 0} {a : _} {b : _} → PrimeGroup E P a b → Parts E
+parts s = (s.q, s.p, s.g, s.h)
 
-abbrev pub residue_parts : ResidueGroup → Residues
-residue_parts s = (s.q, s.p, s.g, s.h)
+-- the three kinds over a group
+abbrev pub kinds_over : {E : Type 0} → AmbientModel E → Parts E → List Kind
+kinds_over a s = three (group_elements a s.0 s.1) (group_model a s.0 s.1 s.2 s.3)
 
-abbrev pub circle_parts : CircleGroup → Circle
-circle_parts s = (s.q, s.p, s.g, s.h)
+abbrev pub set_over : Parts Residue → Parts Pair → KindModel
+set_over r c = set_of r.0 (kinds_over residues r ++ kinds_over circle c)
 
-abbrev pub residue_kinds : Residues → List Kind
-residue_kinds s = three (residue_elements s.0 s.1) (residue_model s.0 s.1 s.2 s.3)
-
-abbrev pub circle_kinds : Circle → List Kind
-circle_kinds s = three (circle_elements s.0 s.1) (circle_model s.0 s.1 s.2 s.3)
-
-abbrev pub set_over : Residues → Circle → KindModel
-set_over r c = set_of r.0 (residue_kinds r ++ circle_kinds c)
-
-abbrev pub kind_reply : Residues → Circle → KindCommand → Result KindReply Refusal
+abbrev pub kind_reply : Parts Residue → Parts Pair → KindCommand → Result KindReply Refusal
 kind_reply r c x = cond (r.0 == c.0) (Ok (answer_to (set_over r c) x)) (Err OrdersDiffer)

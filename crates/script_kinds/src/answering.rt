@@ -1,6 +1,6 @@
 // What the supplied set answers to a command on leaf kinds.
 ghost use Rattle.std.specs.Prelude.{◌≡◌};
-ghost use Rattle.script_kinds.specs.KindReplies.{question_reply, answer_to, kind_reply, residue_parts, circle_parts};
+ghost use Rattle.script_kinds.specs.KindReplies.{question_reply, answer_to, kind_reply, parts};
 
 use crate::reading::{KindCommand, Question};
 use fields::Scalar;
@@ -59,7 +59,7 @@ pub fn obey(
     circle: CircleGroup,
     command: KindCommand,
 ) -> Result<KindReply, Refusal>
-    ensures { result ≡ kind_reply (residue_parts residues) (circle_parts circle) command }
+    ensures { result ≡ kind_reply (parts residues) (parts circle) command }
 {
     Ok(ask(&supplied(residues, circle)?, command))
 }

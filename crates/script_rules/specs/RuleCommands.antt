@@ -11,7 +11,7 @@ use Rattle.words.specs.declared.fault.Expected.TheVariants.{RuleVerb}
 use Rattle.script_rules.specs.declared.reading.RuleCommand.{RuleCommand}
 use Rattle.script_rules.specs.declared.reading.RuleCommand.TheVariants.{Read, Write, Split}
 use Rattle.words.specs.Bytes.{front}
-use Rattle.words.specs.Words.{fault, read_at, after_word, following, end_at, text_of}
+use Rattle.words.specs.Words.{fault, read_at, after_word, following, end_at, text_of, built}
 
 abbrev pub verb_of : List ℕ → Option RuleCommand
 verb_of w =
@@ -20,14 +20,10 @@ verb_of w =
 abbrev pub verb_at : ℕ → List ℕ → Result RuleCommand Fault
 verb_at place bs = read_at verb_of (fault place RuleVerb) bs
 
-abbrev pub ended : Result (Unit {0}) Fault → Result RuleCommand Fault
-ended (Ok u) = Ok Write
-ended (Err why) = Err why
-
 abbrev pub command_of_verb : Result RuleCommand Fault → ℕ → List ℕ → Result RuleCommand Fault
 command_of_verb (Err why) place bs = Err why
 command_of_verb (Ok Read) place bs = Ok Read
-command_of_verb (Ok Write) place bs = ended (end_at place bs)
+command_of_verb (Ok Write) place bs = built (λ u. Write) (end_at place bs)
 command_of_verb (Ok Split) place bs = Ok Split
 
 abbrev pub rule_command : ℕ → List ℕ → Result RuleCommand Fault

@@ -12,7 +12,7 @@
 --   end_at place bs        that bs has no word
 --   numbers_at n place bs  the words of bs as n numbers
 --   at ns i                the number i of these, counted from 0
---   built f r              the value that f makes of the numbers that were read
+--   built f r              r, where it has what f makes of its value
 use Rattle.std.specs.Prelude.{◌≡◌, ℕ, zero, suc, ◌+◌, min, cond, List, [], ◌∷◌, length, Some, None, Ok, Err, Option, Result, ◌==◌, slice_index}
 use Rattle.std.specs.Option.{ok_or}
 use Rattle.words.specs.declared.bytes.Class.TheVariants.{Blank, Word}
@@ -74,8 +74,8 @@ unfoldable pub numbers_at : ℕ → ℕ → List ℕ → Result (List ℕ) Fault
 numbers_at zero place bs = none_at (end_at place bs)
 numbers_at (suc n) place bs = before (number_at place bs) (numbers_at n (following place) (after_word bs))
 
-abbrev pub built : {X : Type 0} → (List ℕ → X) → Result (List ℕ) Fault → Result X Fault
-built f (Ok ns) = Ok (f ns)
+abbrev pub built : {X Y E : Type 0} → (X → Y) → Result X E → Result Y E
+built f (Ok x) = Ok (f x)
 built f (Err why) = Err why
 
 abbrev pub at : List ℕ → ℕ → ℕ
