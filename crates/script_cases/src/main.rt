@@ -11,7 +11,7 @@ fn said(heap: Global, session: &mut Session, line: &[u8]) -> Result<String, Allo
     match session.answer(line) {
         Ok(Some(reply)) => format!(in heap; "{reply}"),
         Ok(None) => format!(in heap; "nothing"),
-        Err(fault) => format!(in heap; "{fault}"),
+        Err(why) => format!(in heap; "{why}"),
     }
 }
 
@@ -19,17 +19,12 @@ fn run(rt: &HostRuntime) -> anyhow::Result<()> {
     let mut text = Vec::new(rt.alloc());
     rt.stdin().read_to_end(&mut text)?;
     let mut session = Session::new();
-    let mut command: Option<&[u8]> = None;
+    let mut lines = Lines::new(&text);
     let mut right: u64 = 0;
     let mut wrong: u64 = 0;
-    for line in Lines::new(&text) {
-        let Some(asked) = command else {
-            command = Some(line);
-            continue;
-        };
-        command = None;
+    while let (Some(asked), Some(expected)) = (lines.next(), lines.next()) {
         let said = said(rt.alloc(), &mut session, asked)?;
-        if is(line, said.as_str()) {
+        if is(expected, said.as_str()) {
             right = right.saturating_add(1);
         } else {
             wrong = wrong.saturating_add(1);
