@@ -9,12 +9,6 @@ use lib.ListN.{length, get_or, set, take, drop, get_elem?, length-drop}
 use lib.Seq.{get_or-set_same, get_or-set_other, get_or-take, get_or-drop, length-take-le, take_all}
 use Rattle.descent.specs.Rows.{SpreadOut}
 
--- an entry inside a row is the same at every default
-pub any_default : {E : Type 0} (xs : List E) (i : ℕ) (d e : E) → i < length xs → get_or xs i d ≡ get_or xs i e
-any_default [] i d e h = absurd (omega arith)
-any_default (x ∷ xs) zero d e h = refl
-any_default (x ∷ xs) (suc i) d e h = any_default xs i d e (omega arith)
-
 pub taken : {E : Type 0} (xs : List E) (i : ℕ) (e d : E) → get_elem? xs i ≡ some e → (i < length xs) × (get_or xs i d ≡ e)
 taken [] i e d h = absurd (let z : ◌≡◌ {A = ℕ} 0 1 = cc in let w = z in omega arith)
 taken (x ∷ xs) zero e d h = (omega arith, cc)

@@ -26,7 +26,6 @@ pub fn split_gate<F: Field>(
     ensures { AtGate (F.Field.model field.now) threshold (children_of children.now) own shares.now challenges.old challenges.new }
 {
     let mut room = [own; 8];
-    let room: &mut [F::Element] = &mut room;
     let row = &mut room[..children.len()];
     let share = children.len() - threshold;
     row[..share].copy_from_slice(&shares[..share]);

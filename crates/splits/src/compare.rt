@@ -22,7 +22,6 @@ pub fn balances<F: Field>(field: &F, k: usize, own: F::Element, children: &[F::E
     ensures { let m = F.Field.model field.now in (T result → Balanced m k own children.now) × (Balanced m k own children.now → T result) }
 {
     let mut room = [own; 8];
-    let room: &mut [F::Element] = &mut room;
     let expected = &mut room[..children.len()];
     expected.copy_from_slice(children);
     split_simulated(field, k, own, expected);

@@ -46,7 +46,6 @@ pub fn split<F: Field>(field: &F, own: F::Element, known: &[bool], children: &mu
     let values = pick(own, known, children);
     let (nodes, values) = (nodes.as_slice(), values.as_slice());
     let mut room = [own; 9];
-    let room: &mut [F::Element] = &mut room;
     let coefficients = &mut room[..values.len()];
     coefficients.copy_from_slice(values);
     interpolate(field, nodes, coefficients);

@@ -94,7 +94,6 @@ fn holds(field: &Scalars, n: usize, own: u32, known: u32, values: [u32; 8]) -> b
     let known = &known[..n];
     let given = scalars(field, values);
     let mut room = given;
-    let room: &mut [Scalar] = &mut room;
     let children = &mut room[..n];
     split(field, own, known, children);
     let k = unknown(known);

@@ -1,11 +1,11 @@
 use Rattle.std.proofs.Common.{◌≡◌, ◌+◌, ◌-◌, ◌<◌, T, length, get_or, take, drop, refl, sym, ap, subst, ◌∙◌, arith, length-drop}
-use Rattle.std.proofs.lemmas.List.{length-map}
+use Rattle.std.proofs.lemmas.List.{length-map, get_or_read}
 use Rattle.rules.specs.Views.{row_of, children_of}
 use Rattle.rules.specs.Texts.{rows_in}
 use Rattle.rules.proofs.Whole.{table_well_formed}
 use Rattle.descent.specs.Descents.{before, AtGate, Descends}
 use Rattle.descent.proofs.Shares.{before_none, before_more, before_rises, share_room, row_at, gate_row, leaf_row}
-use Rattle.descent.proofs.Moved.{any_default, to_end, part_members}
+use Rattle.descent.proofs.Moved.{to_end, part_members}
 use Rattle.descent.proofs.Going.{Passed, passed_none, passed_leaf, passed_gate, passed_all}
 use Rattle.descent.proofs.descend.split_down.Goals as goal
 use Rattle.descent.proofs.descend.split_down.Goals.{in-Gate, in_default}
@@ -40,7 +40,7 @@ split_gate-requires g c =
     let room = share_room es i k (length ss) cs at here c.requires.sizes.1 in
     let inside : i < length c.loop-i.challenges = omega (arith, here, inv.0) in
     let own : c.index-challenges-i.result ≡ get_or c.loop-i.challenges i m.zero =
-    c.index-challenges-i.is ∙ any_default c.loop-i.challenges i c.index-challenges-i.result m.zero inside in
+    get_or_read c.loop-i.challenges i c.index-challenges-i.result inside c.index-challenges-i.is m.zero in
     let rest : length (take (length ss - c.loop-i.used) (drop c.loop-i.used ss)) ≡ length ss - c.loop-i.used = ap length (to_end ss c.loop-i.used) ∙ length-drop c.loop-i.used ss in
     record {
       sizes = (fits.1, (fits.3, omega (arith, rest, room, inv.1)));
@@ -74,7 +74,7 @@ loop-i-preserved g c =
           let k = w.in-Gate.threshold in
           let at = gate_row es i k w.in-Gate.children e row w.in-Gate.is in
           let inside : i < length xs = omega (arith, here, inv.0) in
-          let own : w.index-challenges-i.result ≡ get_or xs i m.zero = w.index-challenges-i.is ∙ any_default xs i w.index-challenges-i.result m.zero inside in
+          let own : w.index-challenges-i.result ≡ get_or xs i m.zero = get_or_read xs i w.index-challenges-i.result inside w.index-challenges-i.is m.zero in
           let part : take (length ss - c.loop-i.used) (drop c.loop-i.used ss) ≡ drop (before es i) ss = to_end ss c.loop-i.used ∙ ap (λ n. drop n ss) inv.1 in
           let gate : AtGate m k cs (get_or xs i m.zero) (drop (before es i) ss) xs ys =
           subst (λ x. AtGate m k cs x (drop (before es i) ss) xs ys) own
