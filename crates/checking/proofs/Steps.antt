@@ -1,5 +1,5 @@
 -- Checks place by place: what is asked at a leaf and at a gate, and what is told where all passed or one failed.
-use Rattle.std.proofs.Common.{◌≡◌, ℕ, ◌+◌, ◌<◌, ◌≤◌, List, Some, None, Option, sym, refl, ap, ◌∙◌, subst, inl, inr, arith}
+use Rattle.std.proofs.Common.{◌≡◌, ℕ, ◌<◌, ◌≤◌, List, Some, None, Option, sym, refl, ap, ◌∙◌, subst, inl, inr, arith}
 use mathlib.Core.Option.{Option as Found, some, none}
 use native.Mathlib.Decide.{dec_lt}
 use lib.ListN.{get_elem?}
@@ -7,12 +7,12 @@ use Rattle.refusals.specs.declared.Refusal.{Refusal}
 use Rattle.kinds.specs.declared.image.Image.{Image}
 use Rattle.bounded.specs.declared.row.Row.{Row as Bounded}
 use Rattle.rules.specs.Views.{children_of}
-use Rattle.releases.specs.Entries.{Entry, leaf, gate, LeafAt, GateAt, to_leaf, number, leaves}
+use Rattle.releases.specs.Entries.{Entry, leaf, gate, LeafAt, GateAt, to_leaf, number}
 use Rattle.releases.specs.Calls.{AtLeaf, AtGate}
 use Rattle.releases.specs.Checks.{Clear, Each}
 use Rattle.releases.proofs.Places.{none_some}
 use Rattle.releases.proofs.Checking.{not_Some}
-use Rattle.releases.proofs.Laid.{before_more, before_rises, leaf_before, number_small}
+use Rattle.releases.proofs.Laid.{before_rises, leaf_before}
 use Rattle.settings.specs.declared.node.Node.{Node}
 use Rattle.settings.specs.declared.node.Node.TheVariants.{Leaf, Gate}
 use Rattle.settings.specs.Nodes.{entry_of}
@@ -53,11 +53,8 @@ GateCase P (some (leaf kind s)) = Unit {0}
 GateCase P (some (gate k cs)) = P k cs
 
 module _ (rule : List Entry) (P : ℕ → ℕ → Image → Type 0) (i : ℕ) where
-  pub at_leaf : (kind : ℕ) (s : Image) → LeafAt rule i kind s → P i kind s → AtLeaf rule P i
-  at_leaf kind s h p kind' s' h' = subst (LeafCase (P i)) (sym h ∙ h') p
-
   -- nothing is asked of a gate
-  pub no_leaf : (k : ℕ) (cs : List ℕ) → GateAt rule i k cs → AtLeaf rule P i
+  no_leaf : (k : ℕ) (cs : List ℕ) → GateAt rule i k cs → AtLeaf rule P i
   no_leaf k cs g kind s h = subst (LeafCase (P i)) (sym g ∙ h) tt
 
   -- so what fails stands at a leaf
@@ -76,17 +73,6 @@ module _ (rule : List Entry) (P : ℕ → ℕ → List ℕ → Type 0) (i : ℕ)
   -- nothing is asked of a leaf
   pub no_gate : (kind : ℕ) (s : Image) → LeafAt rule i kind s → AtGate rule P i
   no_gate kind s h k cs g = subst (GateCase (P i)) (sym h ∙ g) tt
-
--- counting leaves in a loop over the entries: n of them stand before entry i
-module _ (rule : List Entry) (i n : ℕ) (is : n ≡ number rule i) where
-  pub next_leaf : (kind : ℕ) (s : Image) → LeafAt rule i kind s → (n' : ℕ) → n' ≡ n + 1 → n' ≡ number rule (i + 1)
-  next_leaf kind s h n' e = omega (arith, before_more to_leaf rule i (leaf kind s) h)
-
-  pub next_gate : (k : ℕ) (cs : List ℕ) → GateAt rule i k cs → (n' : ℕ) → n' ≡ n → n' ≡ number rule (i + 1)
-  next_gate k cs h n' e = omega (arith, before_more to_leaf rule i (gate k cs) h)
-
-  pub leaf_inside : (kind : ℕ) (s : Image) → LeafAt rule i kind s → (size : ℕ) → size ≡ leaves rule → n < size
-  leaf_inside kind s h size e = omega (arith, number_small rule i kind s h)
 
 -- leaves stand in the order of their numbers
 pub earlier : (rule : List Entry) (i j : ℕ) → number rule j < number rule i → j < i

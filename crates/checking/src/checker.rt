@@ -5,6 +5,7 @@ ghost use Rattle.settings.specs.Rules.{rule_in};
 use kinds::LeafKinds;
 use settings::Rule;
 
+#[derive(Drop)]
 pub struct Checker<'a, S: LeafKinds> {
     pub set: &'a S,
     pub rule: &'a Rule,

@@ -1,12 +1,11 @@
-use Rattle.std.proofs.Common.{◌≡◌, ◌*◌, ◌<◌, sym, ap, ◌∙◌, subst, ap₂, mod-lt, arith, lt→ltb}
+use Rattle.std.proofs.Common.{◌≡◌, ◌<◌, ap, ◌∙◌, ap₂, arith, lt→ltb}
 use Rattle.fields.specs.Scalars.{scalars_model}
-use Rattle.fields.specs.declared.scalar.Scalar.{Scalar}
 use Rattle.fields.specs.ScalarLaws.{scalar_laws}
 use Rattle.checking.proofs.Dividing.{divided}
 use Rattle.checking.proofs.forks.divide_pair.Goals as goal
 
-pub returns : goal.returns
-returns c =
+pub returns-clause-divides : goal.returns-clause-divides
+returns-clause-divides c =
     let f = c.args.field.now in
     let q = f.q in
     let pos : 0 < q = omega (arith, f.low) in
@@ -21,11 +20,4 @@ returns c =
     let hy = lt→ltb y.0 q c.requires.elements.1.0 in
     let hi = c.quotient-inverse.ensures.member in
     let e : m.times i by ≡ m.one = c.quotient-inverse.ensures.divides ∙ c.one.ensures in
-    record {
-      elements = (
-        subst (λ (z : Scalar). z.0 < q) (sym c.product.ensures) (mod-lt (i.0 * x.0) pos),
-        subst (λ (z : Scalar). z.0 < q) (sym c.product-2.ensures) (mod-lt (i.0 * y.0) pos),
-      );
-      divides =
-          ap₂ (λ u v. (u, v)) (ap (m.times by) c.product.ensures ∙ divided laws by i x hb hi hx e) (ap (m.times by) c.product-2.ensures ∙ divided laws by i y hb hi hy e);
-    }
+    ap₂ (λ u v. (u, v)) (ap (m.times by) c.product.ensures ∙ divided laws by i x hb hi hx e) (ap (m.times by) c.product-2.ensures ∙ divided laws by i y hb hi hy e)

@@ -2,20 +2,9 @@ use Rattle.std.proofs.Common.{arith}
 use Rattle.std.proofs.lemmas.Result.{err_from_is_err_and}
 use Rattle.releases.proofs.Checking.{all_passed}
 use Rattle.settings.specs.Rules.{rule_in}
-use Rattle.settings.proofs.Listing.{rule_short}
 use Rattle.transcripts.specs.Transcripts.{transcript_in}
-use Rattle.checking.proofs.Fitting.{challenges_told, commitments_told, responses_told}
+use Rattle.checking.proofs.Fitting.{commitments_told, responses_told}
 use Rattle.checking.proofs.words.check_words.Goals as goal
-
-pub check_challenges-requires : goal.check_challenges-requires
-check_challenges-requires g c = omega (arith, rule_short c.args.rule.now, c.requires.challenges)
-
-pub returns-in_err-check_challenges : goal.returns-in_err-check_challenges
-returns-in_err-check_challenges g c =
-    let m = g.S.LeafKinds.meaning c.args.set.now in
-    let t = transcript_in c.args.transcript.now in
-    let p = err_from_is_err_and c.from_residual.result c.from_residual.ensures.1 in
-    rw (p.1, p.2) (challenges_told m (rule_in c.args.rule.now) t c.requires.challenges _ c.in_err-check_challenges.ensures)
 
 pub returns-in_err-check_commitments : goal.returns-in_err-check_commitments
 returns-in_err-check_commitments g c =

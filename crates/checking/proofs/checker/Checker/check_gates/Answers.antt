@@ -1,4 +1,4 @@
-use Rattle.std.proofs.Common.{ℕ, T, ltb, List, map, get_or, sym, refl, ◌∙◌, subst, arith, below_more}
+use Rattle.std.proofs.Common.{ℕ, List, map, get_or, sym, refl, ◌∙◌, subst, arith, below_more}
 use Rattle.fields.specs.Scalars.{scalar, scalars_model}
 use Rattle.fields.specs.declared.scalar.Scalar.{Scalar}
 use Rattle.rules.specs.Views.{children_of}
@@ -10,29 +10,23 @@ use Rattle.checking.proofs.Steps.{each_clear, each_told, leaf_entry, gate_entry,
 use Rattle.checking.proofs.checker.Checker.check_gates.Goals as goal
 use Rattle.checking.proofs.checker.Checker.check_gates.Goals.{in-Gate+else-not-gate_balances, in_default}
 
-pub gate_balances-requires : goal.gate_balances-requires
-gate_balances-requires g c =
+pub gate_balances-requires-clause-sizes : goal.gate_balances-requires-clause-sizes
+gate_balances-requires-clause-sizes g c =
     let rule = rule_in c.args.self.now.rule.now in
-    let ch = c.args.challenges.now in
     let i = c.loop-i.i in
     let k = c.in-Gate.threshold in
-    let cs = children_of c.in-Gate.children in
-    let at = gate_entry rule i k c.in-Gate.children c.node-item.result (node_stands _ rule c.nodes-node-items.ensures.are i _ c.loop-i-test.true c.node-item.is) c.in-Gate.is in
-    let m = g.S.LeafKinds.meaning c.args.self.now.set.now in
-    let known = c.args.self.now.setting in
-    let order = sym (c.known-field.ensures ∙ c.order.ensures) in
-    let long = c.requires.long in
-    record {
-      sizes = gate_fits m rule known i k cs at;
-      elements = (
-        subst (λ q. T (ltb (get_or ch i (scalar 0)).0 q)) order (c.requires.scalars i (omega arith)),
-        λ j h. subst (λ q. T (ltb (get_or ch j (scalar 0)).0 q)) order (c.requires.scalars j (omega arith)),
-      );
-      inside = λ j h. omega (arith, children_inside m rule known i k cs at j h);
-    }
+    let cs = c.in-Gate.children in
+    let at = gate_entry rule i k cs c.node-item.result (node_stands _ rule c.nodes-node-items.ensures.are i _ c.loop-i-test.true c.node-item.is) c.in-Gate.is in
+    gate_fits (g.S.LeafKinds.meaning c.args.self.now.set.now) rule c.args.self.now.setting i k (children_of cs) at
 
-pub loop-i-init : goal.loop-i-init
-loop-i-init g c = λ k h. absurd (omega arith)
+pub gate_balances-requires-clause-inside : goal.gate_balances-requires-clause-inside
+gate_balances-requires-clause-inside g c = λ j h.
+    let rule = rule_in c.args.self.now.rule.now in
+    let i = c.loop-i.i in
+    let k = c.in-Gate.threshold in
+    let cs = c.in-Gate.children in
+    let at = gate_entry rule i k cs c.node-item.result (node_stands _ rule c.nodes-node-items.ensures.are i _ c.loop-i-test.true c.node-item.is) c.in-Gate.is in
+    omega (arith, c.requires.long, children_inside (g.S.LeafKinds.meaning c.args.self.now.set.now) rule c.args.self.now.setting i k (children_of cs) at j h)
 
 pub loop-i-preserved : goal.loop-i-preserved
 loop-i-preserved g c =

@@ -17,14 +17,9 @@ returns-in_err-check_words g c =
     let p = err_from_is_err_and c.from_residual.result c.from_residual.ensures.1 in
     rw (p.1, p.2) (each_refused (GatesChecked m rule (challenge t) (EquationsChecked m rule t Clear)) _ c.in_err-check_words.ensures)
 
-pub check_gates-requires : goal.check_gates-requires
-check_gates-requires g c =
-    let m = g.S.LeafKinds.meaning c.args.self.now.set.now in
-    let t = transcript_in c.args.transcript.now in
-    record {
-      long = c.requires.challenges;
-      scalars = scalars_fit m (rule_in c.args.self.now.rule.now) t (all_passed c.in_ok-check_words.ensures).0;
-    }
+pub check_gates-requires-clause-scalars : goal.check_gates-requires-clause-scalars
+check_gates-requires-clause-scalars g c =
+    scalars_fit (g.S.LeafKinds.meaning c.args.self.now.set.now) (rule_in c.args.self.now.rule.now) (transcript_in c.args.transcript.now) (all_passed c.in_ok-check_words.ensures).0
 
 pub returns-in_err-check_gates : goal.returns-in_err-check_gates
 returns-in_err-check_gates g c =
@@ -34,10 +29,10 @@ returns-in_err-check_gates g c =
     let p = err_from_is_err_and c.from_residual-in_err-check_gates.result c.from_residual-in_err-check_gates.ensures.1 in
     rw (p.1, p.2) (each_then (GatesChecked m rule (challenge t) (EquationsChecked m rule t Clear)) _ c.in_ok-check_words.ensures (each_refused (EquationsChecked m rule t Clear) _ c.in_err-check_gates.ensures))
 
-pub check_equations-requires : goal.check_equations-requires
-check_equations-requires g c =
-    let m = g.S.LeafKinds.meaning c.args.self.now.set.now in
-    let rule = rule_in c.args.self.now.rule.now in
-    let t = transcript_in c.args.transcript.now in
-    let fits = (all_passed c.in_ok-check_words.ensures).0 in
-    record { shaped = c.requires; images = images_fit m rule t fits; keys = keys_fit m rule t fits }
+pub check_equations-requires-clause-images : goal.check_equations-requires-clause-images
+check_equations-requires-clause-images g c =
+    images_fit (g.S.LeafKinds.meaning c.args.self.now.set.now) (rule_in c.args.self.now.rule.now) (transcript_in c.args.transcript.now) (all_passed c.in_ok-check_words.ensures).0
+
+pub check_equations-requires-clause-keys : goal.check_equations-requires-clause-keys
+check_equations-requires-clause-keys g c =
+    keys_fit (g.S.LeafKinds.meaning c.args.self.now.set.now) (rule_in c.args.self.now.rule.now) (transcript_in c.args.transcript.now) (all_passed c.in_ok-check_words.ensures).0
