@@ -71,6 +71,7 @@ impl<S: LeafKinds> Checker<'_, S> {
     {
         let field = Scalars::known(self.set.order());
         let leaves = self.rule.leaves();
+        // kept: keys by the leaf's number; after a zip of `iter_mut` a proof knows nothing of what was written.
         for (number, leaf) in leaves.iter().enumerate() {
             let at = leaf.entry;
             let pair = (transcript.challenges[at], other.challenges[at]);

@@ -33,6 +33,7 @@ fn gate_balances(
     ensures { let gate = Balanced (scalars_model field.now.q) threshold own (map (λ p. get_or challenges.now p (scalar 0)) (children_of children.now)) in (T result → gate) × (gate → T result) }
 {
     let mut row: Row<Scalar, 8> = Row::blank(own);
+    // kept: a loop; a row's `map` asks for a function that may be called with every position, and this one takes those inside.
     for position in children.as_slice() {
         row.push(challenges[*position as usize]);
     }

@@ -36,6 +36,8 @@ fn check_commitments<S: LeafKinds>(
     ensures { ImagesChecked (S.LeafKinds.meaning set.now) (rule_in rule.now) commitments.now (told result) }
 {
     let leaves = rule.leaves();
+    // kept: commitments by the leaf's number; tried: the leaves zipped with the commitments and `position`, the proof did not close,
+    // as the test calls the set of leaf kinds. So it is with responses and equations.
     for (number, leaf) in leaves.iter().enumerate() {
         if !set.is_image(leaf.kind, &commitments[number]) {
             return Err(Refusal::UnfitWord((rule.len() + 4 * number) as u8));
@@ -74,6 +76,7 @@ fn check_responses<S: LeafKinds>(
 
 // Refuses the first word that does not fit: a challenge is below q, four words of a commitment are an image of its leaf's
 // kind (told at their first), two words of a response are a key of it.
+// kept: no method of `Checker`, as it asks nothing of the rule and the set.
 pub fn check_words<S: LeafKinds>(
     set: &S,
     rule: &Rule,

@@ -15,8 +15,8 @@ with_lines-requires g c =
     let known = sym (c.in_ok-lines.ensures.refuses ∙ ap (pair_refusal rows) lines) in
     ap length (c.deref.ensures ∙ c.in_ok-lines.ensures.pairs ∙ ap (paired rows) lines) ∙ length-paired rows (ring_lines c.args.ring.now) known
 
-pub returns : goal.returns
-returns g c =
+pub returns-clause-setting : goal.returns-clause-setting
+returns-clause-setting g c =
     let m = g.S.LeafKinds.meaning c.args.set.now in
     let rows = rows_in c.in_ok-table.table in
     let ring = c.args.ring.now in
@@ -25,7 +25,4 @@ returns g c =
     let known = sym (c.in_ok-lines.ensures.refuses ∙ ap (pair_refusal rows) lines) in
     let listed = c.with_lines.ensures ∙ ap (entries rows) (c.deref.ensures ∙ c.in_ok-lines.ensures.pairs ∙ ap (paired rows) lines) in
     let read = c.in_ok-table.ensures in
-    record {
-      built = record { rows = rows; means = read.means; whole = whole; known = known; listed = listed };
-      setting = subst (Setting m) (sym listed) (reading_sets m (g.met.S.LeafKinds.lawful c.args.set.now) rows read.well_formed ring whole known);
-    }
+    subst (Setting m) (sym listed) (reading_sets m (g.met.S.LeafKinds.lawful c.args.set.now) rows read.well_formed ring whole known)

@@ -12,13 +12,6 @@ use Rattle.settings.proofs.Listing.{drop-map_next, pushed, some_left, next_line,
 use Rattle.settings.proofs.building.with_lines.Goals as goal
 use Rattle.settings.proofs.building.with_lines.Goals.{in-Leaf, in-Gate}
 
-pub loop-entry-init : goal.loop-entry-init
-loop-entry-init c =
-    let rows = rows_in c.args.table.now in
-    let none = c.blank-nodes.ensures.none in
-    let all = c.iter-left.ensures.rest in
-    (ap₂ (λ ns ls. map entry_of ns ++ entries rows ls) none all, ap length all ∙ c.requires, ap length none)
-
 pub unwrap-requires : goal.unwrap-requires
 unfolding row_of
 unwrap-requires c =
@@ -88,10 +81,3 @@ invariant_of-result c =
       few = omega (arith, c.leaf_count.ensures, wf.few_leaves);
       counted = c.leaf_count.ensures ∙ sym (ap leaves all ∙ leaves_kept rows c.args.lines.now);
     }
-
-pub returns : goal.returns
-returns c =
-    let rows = rows_in c.args.table.now in
-    let same = ap length c.entries-entry-items.ensures in
-    let past = length-map c.entries-entry-items.result.now row_of in
-    whole (items c.loop-entry.nodes) rows c.loop-entry.entry-index _ _ (omega arith) c.loop-entry.invariant.0
