@@ -11,7 +11,7 @@ ghost use Rattle.checking.specs.Checkings.{EquationsChecked};
 
 use crate::checker::Checker;
 use fields::Scalar;
-use kinds::{Image, LeafKinds, power_of_image, product_of_images};
+use kinds::{Image, Key, LeafKinds, power_of_image, product_of_images};
 use refusals::Refusal;
 use transcripts::Transcript;
 
@@ -22,7 +22,7 @@ fn equation_holds<S: LeafKinds>(
     statement: &Image,
     challenge: Scalar,
     commitment: &Image,
-    response: (Scalar, Scalar),
+    response: Key,
 ) -> bool
     requires { let m = S.LeafKinds.meaning set.now in (IsImage m kind statement.now) × ((IsImage m kind commitment.now) × (IsKey m kind response)) }
     ensures { let m = S.LeafKinds.meaning set.now in let equation = (m.kind kind).image response ≡ (m.kind kind).product commitment.now (raised m kind statement.now challenge.0) in (T result → equation) × (equation → T result) }

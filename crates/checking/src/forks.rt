@@ -16,13 +16,13 @@ ghost use Rattle.checking.specs.Checkings.{ForkChecked, ForkedKey};
 
 use crate::checker::Checker;
 use fields::{Field, Scalar, Scalars};
-use kinds::{Image, LeafKinds};
+use kinds::{Image, Key, LeafKinds};
 use refusals::Refusal;
 use settings::Rule;
 use transcripts::Transcript;
 
 // Both scalars of a pair divided by one that is not 0: one division, by which both are multiplied.
-fn divide_pair(field: &Scalars, pair: (Scalar, Scalar), by: Scalar) -> (Scalar, Scalar)
+fn divide_pair(field: &Scalars, pair: Key, by: Scalar) -> Key
     requires elements { (pair.0.0 < field.now.q) × ((pair.1.0 < field.now.q) × (by.0 < field.now.q)) }
     requires apart { by ≢ scalar 0 }
     ensures elements { (result.0.0 < field.now.q) × (result.1.0 < field.now.q) }
@@ -36,12 +36,7 @@ fn divide_pair(field: &Scalars, pair: (Scalar, Scalar), by: Scalar) -> (Scalar, 
 }
 
 // The key that one leaf's challenges and responses in two transcripts give: none where the challenges are equal.
-fn fork_key(
-    field: &Scalars,
-    challenges: (Scalar, Scalar),
-    response: (Scalar, Scalar),
-    other: (Scalar, Scalar),
-) -> Option<(Scalar, Scalar)>
+fn fork_key(field: &Scalars, challenges: (Scalar, Scalar), response: Key, other: Key) -> Option<Key>
     requires challenges { (challenges.0.0 < field.now.q) × (challenges.1.0 < field.now.q) }
     requires responses { (response.0.0 < field.now.q) × ((response.1.0 < field.now.q) × ((other.0.0 < field.now.q) × (other.1.0 < field.now.q))) }
     ensures { ForkedKey field.now.q challenges.0 challenges.1 response other result }
@@ -57,12 +52,7 @@ fn fork_key(
 
 impl<S: LeafKinds> Checker<'_, S> {
     // Writes the keys that two transcripts give: at each leaf whose challenges differ the quotient of the responses by them, else none.
-    pub fn fork_keys(
-        &self,
-        transcript: &Transcript,
-        other: &Transcript,
-        keys: &mut [Option<(Scalar, Scalar)>],
-    )
+    pub fn fork_keys(&self, transcript: &Transcript, other: &Transcript, keys: &mut [Option<Key>])
         requires long { let n = length (rule_in self.now.rule.now) in let t = transcript_in transcript.now in let o = transcript_in other.now in (length t.challenges ≡ n) × (length o.challenges ≡ n) }
         requires responses { let l = leaf_entries (rule_in self.now.rule.now) in let t = transcript_in transcript.now in let o = transcript_in other.now in (length t.responses ≡ l) × ((length o.responses ≡ l) × (length keys.old ≡ l)) }
         requires scalars { let m = S.LeafKinds.meaning self.now.set.now in ((i : ℕ) → i < length (rule_in self.now.rule.now) → T (is_scalar m (challenge_at (transcript_in transcript.now) i)) × T (is_scalar m (challenge_at (transcript_in other.now) i))) }

@@ -9,7 +9,7 @@ ghost use Rattle.transcripts.specs.Transcripts.{transcript_in};
 ghost use Rattle.checking.specs.Checkings.{ScalarsChecked, ImagesChecked, KeysChecked, WordsChecked};
 
 use fields::Scalar;
-use kinds::{Image, LeafKinds, is_key};
+use kinds::{Image, Key, LeafKinds, is_key};
 use refusals::Refusal;
 use settings::Rule;
 use transcripts::Transcript;
@@ -47,18 +47,14 @@ fn check_commitments<S: LeafKinds>(
 }
 
 // Which scalar of a response that is no key does not fit: the first if it is not below q, else the second.
-fn unfit_part<S: LeafKinds>(set: &S, response: (Scalar, Scalar)) -> usize
+fn unfit_part<S: LeafKinds>(set: &S, response: Key) -> usize
     ensures { result ≡ (if is_scalar (S.LeafKinds.meaning set.now) response.0 then 1 else 0) }
 {
     usize::from(response.0.value() < set.order())
 }
 
 // Refuses the first response that is no key of its leaf's kind.
-fn check_responses<S: LeafKinds>(
-    set: &S,
-    rule: &Rule,
-    responses: &[(Scalar, Scalar)],
-) -> Result<(), Refusal>
+fn check_responses<S: LeafKinds>(set: &S, rule: &Rule, responses: &[Key]) -> Result<(), Refusal>
     requires { length responses.now ≡ leaf_entries (rule_in rule.now) }
     ensures { KeysChecked (S.LeafKinds.meaning set.now) (rule_in rule.now) responses.now (told result) }
 {

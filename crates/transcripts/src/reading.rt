@@ -6,7 +6,7 @@ ghost use Rattle.releases.specs.Transcripts.{images_in, keys_in};
 
 use crate::spelling::Spelt;
 use fields::Scalar;
-use kinds::Image;
+use kinds::{Image, Key};
 
 // Reads words of W each into as many items as there is room for.
 fn read<const W: usize, T: Spelt<W>>(words: &[u32], items: &mut [T])
@@ -24,7 +24,7 @@ pub fn read_words(
     words: &[u32],
     challenges: &mut [Scalar],
     commitments: &mut [Image],
-    responses: &mut [(Scalar, Scalar)],
+    responses: &mut [Key],
 )
     requires { length words.now ≡ length challenges.old + 4 * length commitments.old + 2 * length responses.old }
     ensures challenges { challenges.new ≡ map scalar (take (length challenges.old) words.now) }

@@ -3,7 +3,7 @@ ghost use Rattle.std.specs.Prelude.{◌≡◌, ℕ, ◌≤◌, List, length};
 ghost use Rattle.transcripts.specs.Spellings.{scalar_words, scalar_of, pair_words, pair_of, four_words, image_of};
 
 use fields::Scalar;
-use kinds::Image;
+use kinds::{Image, Key};
 
 pub(crate) trait Spelt<const W: usize>: Copy {
     ghost spelt: { Self → List ℕ };
@@ -32,7 +32,7 @@ impl Spelt<1> for Scalar {
     }
 }
 
-impl Spelt<2> for (Scalar, Scalar) {
+impl Spelt<2> for Key {
     ghost spelt = { pair_words };
 
     ghost meant = { pair_of };
@@ -41,7 +41,7 @@ impl Spelt<2> for (Scalar, Scalar) {
         [self.0.value(), self.1.value()]
     }
 
-    fn of_words(words: &[u32]) -> (Scalar, Scalar) {
+    fn of_words(words: &[u32]) -> Key {
         (Scalar::new(words[0]), Scalar::new(words[1]))
     }
 }
