@@ -140,6 +140,7 @@ mod tests {
     }
 
     // A refusal's number and place; none where there is no refusal.
+    // kept: number and place are what users are told, so they are what is expected here
     fn told<T: Drop>(made: Result<T, Refusal>) -> Option<(u8, u32)> {
         made.err()
             .map(|refusal| (refusal.number(), refusal.place()))
