@@ -13,7 +13,7 @@ mod side;
 pub use asked::{
     image_power, image_product, is_key, key_image, neutral_image, power_of_image, product_of_images,
 };
-pub use form::Form;
+pub use form::{Form, Mixed, Shape, Single, Twin};
 pub use image::Image;
 pub use join::Join;
 pub use key::Key;

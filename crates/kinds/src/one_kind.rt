@@ -6,16 +6,16 @@ ghost use Rattle.kinds.specs.Sets.{images_laws};
 ghost use Rattle.kinds.specs.GroupLaws.{form_lawful};
 ghost use Rattle.std.proofs.Common.{rules};
 
-use crate::form::Form;
+use crate::form::{Form, Shape};
 use crate::image::Image;
 use crate::key::Key;
 use crate::leaf_kinds::LeafKinds;
 use groups::{Group, Monoid, power};
 
 #[derive(Clone, Copy, Drop)]
-pub struct OneKind<G: Group> {
+pub struct OneKind<G: Group, F: Shape> {
     pub group: G,
-    pub form: Form,
+    pub form: F,
 }
 
 // The words of the product of two elements that are known to be elements.
@@ -28,21 +28,21 @@ fn product_in_words<G: Group>(group: &G, a: (u32, u32), b: (u32, u32)) -> (u32, 
     group.to_words(&group.product((), &x, &y))
 }
 
-impl<G: Group> Monoid for OneKind<G> {
+impl<G: Group, F: Shape> Monoid for OneKind<G, F> {
     type Index = u8;
 
     type Element = Image;
 
-    ghost monoid = { λ s n. images ((meant (G.Monoid.monoid s.group tt) (G.Group.group s.group) s.form).kind n) };
+    ghost monoid = { λ s n. images ((meant (G.Monoid.monoid s.group tt) (G.Group.group s.group) F.form).kind n) };
 
-    ghost multiplies = { λ s n. images_laws _ (form_lawful (G.Monoid.multiplies s.group tt) (G.Group.lawful s.group) s.form) n };
+    ghost multiplies = { λ s n. images_laws _ (form_lawful (G.Monoid.multiplies s.group tt) (G.Group.lawful s.group) F.form) n };
 
     fn neutral(&self, kind: u8) -> Image {
         if kind != 1 {
             return Image::ZEROS;
         }
         let one = self.group.to_words(&self.group.neutral(()));
-        match self.form {
+        match F::form() {
             Form::Single | Form::Mixed => Image(one, (0, 0)),
             Form::Twin => Image(one, one),
         }
@@ -50,17 +50,17 @@ impl<G: Group> Monoid for OneKind<G> {
 
     fn product(&self, _kind: u8, a: &Image, b: &Image) -> Image {
         let first = product_in_words(&self.group, a.0, b.0);
-        match self.form {
+        match F::form() {
             Form::Single | Form::Mixed => Image(first, (0, 0)),
             Form::Twin => Image(first, product_in_words(&self.group, a.1, b.1)),
         }
     }
 }
 
-impl<G: Group> LeafKinds for OneKind<G> {
-    ghost meaning = { λ s. meant (G.Monoid.monoid s.group tt) (G.Group.group s.group) s.form };
+impl<G: Group, F: Shape> LeafKinds for OneKind<G, F> {
+    ghost meaning = { λ s. meant (G.Monoid.monoid s.group tt) (G.Group.group s.group) F.form };
 
-    ghost lawful = { λ s. form_lawful (G.Monoid.multiplies s.group tt) (G.Group.lawful s.group) s.form };
+    ghost lawful = { λ s. form_lawful (G.Monoid.multiplies s.group tt) (G.Group.lawful s.group) F.form };
 
     ghost multiplied = { Prim.search rules };
 
@@ -76,7 +76,7 @@ impl<G: Group> LeafKinds for OneKind<G> {
         if kind != 1 {
             return 0;
         }
-        match self.form {
+        match F::form() {
             Form::Single | Form::Twin => 1,
             Form::Mixed => 2,
         }
@@ -84,17 +84,17 @@ impl<G: Group> LeafKinds for OneKind<G> {
 
     fn is_image(&self, kind: u8, image: &Image) -> bool {
         kind == 1
-            && self.group.from_words(image.0).is_some()
-            && match self.form {
+            && match F::form() {
                 Form::Single | Form::Mixed => image.1 == (0, 0),
                 Form::Twin => self.group.from_words(image.1).is_some(),
             }
+            && self.group.from_words(image.0).is_some()
     }
 
     fn image_of_key(&self, _kind: u8, key: Key) -> Image {
         let group = &self.group;
         let first = power(group, (), &group.g(), key.0.value());
-        match self.form {
+        match F::form() {
             Form::Single => Image(group.to_words(&first), (0, 0)),
             Form::Twin => {
                 let second = power(group, (), &group.h(), key.0.value());

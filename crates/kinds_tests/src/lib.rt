@@ -192,7 +192,7 @@ mod tests {
     fn multiples_beside_single(rt: HostRuntime) -> Result<(), Fail> {
         let single = OneKind {
             group: residues()?,
-            form: Form::Single,
+            form: Single,
         };
         let set = Join::new(Multiples::new(11, 7, 3)?, single)?;
         assert_eq!(rt; key_image(&set, 3, key(5, 0)), word(6));

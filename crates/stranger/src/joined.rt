@@ -3,11 +3,11 @@ ghost use Rattle.std.specs.Prelude.{◌≡◌};
 ghost use Rattle.groups.specs.Monoids.{power as nth};
 ghost use Rattle.kinds.specs.Kinds.{images};
 ghost use Rattle.kinds.specs.Joins.{join as both};
-ghost use Rattle.stranger.specs.Joined.{multiples_of as meant, one_kind_of, OfSum};
+ghost use Rattle.stranger.specs.Joined.{multiples_of as meant, single_of, OfSum};
 
 use crate::multiples::Multiples;
 use groups::ResidueGroup;
-use kinds::{Image, Join, Key, LeafKinds, OneKind, image_power, image_product, key_image};
+use kinds::{Image, Join, Key, LeafKinds, OneKind, Single, image_power, image_product, key_image};
 
 // The product of the images of two keys; by the laws of a set it is the image of their sum.
 pub fn image_of_sum<S: LeafKinds>(set: &S, kind: u8, v: Key, w: Key) -> Image
@@ -37,14 +37,14 @@ pub fn power_beside_any<S: LeafKinds>(
     image_power(set, kind, image, exponent)
 }
 
-// Multiples and one kind over a residue group: the generic text at this type, in the words of the two sides.
-pub fn sum_beside_one_kind(
-    set: &Join<Multiples, OneKind<ResidueGroup>>,
+// Multiples and the single kind over a residue group: the generic text at this type, in the words of the two sides.
+pub fn sum_beside_single(
+    set: &Join<Multiples, OneKind<ResidueGroup, Single>>,
     kind: u8,
     v: Key,
     w: Key,
 ) -> Image
-    ensures { OfSum (both (meant set.now.left) (one_kind_of set.now.right)) kind v w result }
+    ensures { OfSum (both (meant set.now.left) (single_of set.now.right)) kind v w result }
 {
     image_of_sum(set, kind, v, w)
 }

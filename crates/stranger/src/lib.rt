@@ -6,5 +6,5 @@ mod maker;
 mod multiples;
 mod set;
 
-pub use joined::{image_beside_own, image_of_sum, power_beside_any, sum_beside_one_kind};
+pub use joined::{image_beside_own, image_of_sum, power_beside_any, sum_beside_single};
 pub use multiples::Multiples;

@@ -10,20 +10,25 @@ use Rattle.groups.specs.Circles.{Pair}
 use Rattle.groups.specs.declared.residue.Residue.{Residue}
 use Rattle.groups.specs.PrimeGroups.{ResidueGroup, CircleGroup}
 use Rattle.kinds.specs.Kinds.{Kind, KindModel}
-use Rattle.kinds.specs.GroupKinds.{single, twin, mixed}
+use Rattle.kinds.specs.GroupKinds.{single, twin, mixed, single_set, twin_set, mixed_set}
 use Rattle.kinds.specs.Joins.{join, join_refusal}
 use Rattle.kinds.specs.Numbered.{set_of}
 use Rattle.kinds.proofs.NumberedJoins.{alone_listed, join_listed}
-use Rattle.supplied.specs.Supplied.{Three, SuppliedSet, three, three_of, six, residue_product, residue_group, circle_product, circle_group, three_sets, meant}
+use Rattle.supplied.specs.Supplied.{Three, SuppliedSet, three, six, residue_product, residue_group, circle_product, circle_group, three_sets, meant}
 
-pub three_listed : {G E : Type 0} (m : G → MonoidModel E) (g : G → GroupModel E) (x : G)
-    → three_sets m g (three_of x) ≡ set_of (g x).order (three (m x) (g x))
-three_listed m g x =
+-- the three groups of a triple are one group
+abbrev pub All : {G E : Type 0} → G → Three G E → Type 0
+All x s = (s.left.left.group ≡ x) × (s.left.right.group ≡ x) × (s.right.group ≡ x)
+
+pub three_listed : {G E : Type 0} (m : G → MonoidModel E) (g : G → GroupModel E) (x : G) (s : Three G E) → All x s
+    → three_sets m g s ≡ set_of (g x).order (three (m x) (g x))
+three_listed m g x s (a, b, c) =
     let q = (g x).order in
     let k = single (m x) (g x) in
     let l = twin (m x) (g x) in
     let n = mixed (m x) (g x) in
-    ap₂ join (ap₂ join (alone_listed q k) (alone_listed q l) ∙ join_listed q (k ∷ []) (l ∷ []) (lit≤ tt)) (alone_listed q n)
+    (λ t. join (join (single_set (m (a t)) (g (a t))) (twin_set (m (b t)) (g (b t)))) (mixed_set (m (c t)) (g (c t))))
+    ∙ ap₂ join (ap₂ join (alone_listed q k) (alone_listed q l) ∙ join_listed q (k ∷ []) (l ∷ []) (lit≤ tt)) (alone_listed q n)
     ∙ join_listed q (k ∷ l ∷ []) (n ∷ []) (lit≤ tt)
 
 only : (o : Option Refusal) → or_else o None ≡ o
@@ -34,7 +39,7 @@ agree : (b : Bool) → unless b OrdersDiffer ≡ None → b ≡ true
 agree true e = refl
 agree false e = cc
 
-module _ (r : ResidueGroup) (c : CircleGroup) (a : Three ResidueGroup Residue) (b : Three CircleGroup Pair) (one : a ≡ three_of r) (two : b ≡ three_of c) where
+module _ (r : ResidueGroup) (c : CircleGroup) (a : Three ResidueGroup Residue) (b : Three CircleGroup Pair) (one : All r a) (two : All c b) where
   abbrev residue_kinds : List Kind
   residue_kinds = three (residue_product r) (residue_group r)
 
@@ -48,10 +53,10 @@ module _ (r : ResidueGroup) (c : CircleGroup) (a : Three ResidueGroup Residue) (
   right = three_sets circle_product circle_group b
 
   left_listed : left ≡ set_of r.q residue_kinds
-  left_listed = ap (three_sets residue_product residue_group) one ∙ three_listed residue_product residue_group r
+  left_listed = three_listed residue_product residue_group r a one
 
   right_listed : right ≡ set_of c.q circle_kinds
-  right_listed = ap (three_sets circle_product circle_group) two ∙ three_listed circle_product circle_group c
+  right_listed = three_listed circle_product circle_group c b two
 
   pub why_refused : join_refusal left right ≡ unless (eqb r.q c.q) OrdersDiffer
   why_refused = ap₂ join_refusal left_listed right_listed ∙ only (unless (eqb r.q c.q) OrdersDiffer)

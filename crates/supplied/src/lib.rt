@@ -6,35 +6,29 @@ ghost use Rattle.refusals.specs.Checks.{told, unless};
 ghost use Rattle.refusals.specs.declared.Refusal.TheVariants.{OrdersDiffer};
 ghost use Rattle.kinds.specs.Kinds.{no_kind};
 ghost use Rattle.kinds.specs.Numbered.{set_of};
-ghost use Rattle.supplied.specs.Supplied.{three_of, six, meant};
+ghost use Rattle.supplied.specs.Supplied.{six, meant};
 
 use groups::{CircleGroup, Group, ResidueGroup};
-use kinds::{Form, Image, Join, Key, LeafKinds, OneKind, key_image};
+use kinds::{Image, Join, Key, LeafKinds, Mixed, OneKind, Single, Twin, key_image};
 use refusals::Refusal;
 
 // The three kinds over one group.
-pub type Three<G> = Join<Join<OneKind<G>, OneKind<G>>, OneKind<G>>;
+pub type Three<G> = Join<Join<OneKind<G, Single>, OneKind<G, Twin>>, OneKind<G, Mixed>>;
 
 pub type Supplied = Join<Three<ResidueGroup>, Three<CircleGroup>>;
 
 fn three<G: Group + Copy>(group: G) -> Three<G>
-    ensures { result ≡ three_of group }
+    ensures { (result.left.left.group ≡ group) × (result.left.right.group ≡ group) × (result.right.group ≡ group) }
 {
     Join {
         left: Join {
             left: OneKind {
                 group,
-                form: Form::Single,
+                form: Single,
             },
-            right: OneKind {
-                group,
-                form: Form::Twin,
-            },
+            right: OneKind { group, form: Twin },
         },
-        right: OneKind {
-            group,
-            form: Form::Mixed,
-        },
+        right: OneKind { group, form: Mixed },
     }
 }
 
