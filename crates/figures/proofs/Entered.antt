@@ -12,7 +12,7 @@ use Rattle.kinds.specs.declared.image.Image.{Image}
 use Rattle.kinds.specs.GroupLaws.{form_lawful}
 use Rattle.kinds.specs.declared.form.Form.TheVariants.{Single, Twin, Mixed}
 use Rattle.kinds.specs.JoinLaws.{join_lawful}
-use Rattle.supplied.specs.Supplied.{three_of}
+use Rattle.supplied.specs.Supplied.{Three}
 use Rattle.supplied.proofs.SixKinds.{six_listed}
 use Rattle.rules.specs.Grammar.{Rule, key as key_item, gate as gate_item, none as no_more, more, decimal, opening, Legal}
 use Rattle.rules.specs.Texts.{Means, Read}
@@ -48,11 +48,17 @@ formed = well_formed grammar legal
 pub table_read : Read text rows
 table_read = record { means = means; only = λ es m. one_table text rows es means m; well_formed = formed }
 
+abbrev three_of : {G E : Type 0} → G → Three G E
+three_of g = record {
+  left = record { left = record { group = g; form = record {} }; right = record { group = g; form = record {} } };
+  right = record { group = g; form = record {} };
+}
+
 lawful : Lawful kinds
 lawful =
     let r = form_lawful (residue_monoid 11 23 (residue 4) (residue 9) residues.passed) (residue_laws 11 23 (residue 4) (residue 9) residues.passed) in
     let c = form_lawful (circle_group_monoid 11 43 (pair 2 13) (pair 26 23) circle.passed) (circle_laws 11 43 (pair 2 13) (pair 26 23) circle.passed) in
-    subst Lawful (six_listed residues circle (three_of residues) (three_of circle) refl refl refl)
+    subst Lawful (six_listed residues circle (three_of residues) (three_of circle) (refl, refl, refl) (refl, refl, refl) refl)
     (join_lawful _ _
     (join_lawful _ _ (join_lawful _ _ (r Single) (r Twin)) (r Mixed))
     (join_lawful _ _ (join_lawful _ _ (c Single) (c Twin)) (c Mixed)))
