@@ -175,9 +175,6 @@ pub record Going (s : List ℕ) (start depth : ℕ) (t0 : Entries) (at : ℕ) (c
   pub read : (c' : List ℕ) (t' : Entries) (end : ℕ) → Items s at depth c c' t t' end → Items s start depth [] c' t0 t' end
   pub refused : (x : Refusal) → ItemsRefused s at depth (length c) t.keys x → ItemsRefused s start depth 0 t0.keys x
 
-pub going : (s : List ℕ) (start depth : ℕ) (t : Entries) → Going s start depth t start [] t
-going s start depth t = record { read = λ c t2 end j. j; refused = λ x r. r }
-
 pub items_refused : (s : List ℕ) (at depth n k : ℕ) (x : Refusal) → Refused s at depth k x → ItemsRefused s at depth n k x
 items_refused s at depth n k x r gs h sofar e g = r (opened h sofar ∷ gs) g
 

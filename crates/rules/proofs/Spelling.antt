@@ -1,5 +1,5 @@
 -- Writing, byte by byte and item by item.
-use Rattle.std.proofs.Common.{map, ◌≡◌, ℕ, ◌+◌, ◌-◌, ◌/◌, ◌%◌, ◌<◌, ◌≤◌, List, [], ◌∷◌, ◌++◌, length, get_or, drop, sym, ap, ◌∙◌, subst, append_assoc, arith, le-ltb, lt-ltb, eq-eqb, ne_eqb}
+use Rattle.std.proofs.Common.{map, ◌≡◌, ℕ, ◌+◌, ◌-◌, ◌<◌, ◌≤◌, List, [], ◌∷◌, ◌++◌, length, get_or, drop, sym, ap, ◌∙◌, subst, append_assoc, arith, ne_eqb}
 use Rattle.std.proofs.lemmas.List.{drop_more, drop-drop, drop_at, append-nil, length-append, length-drop, length-map, get_or-map}
 use Rattle.bounded.specs.declared.row.Row.{Row as Bounded}
 use Rattle.rules.specs.declared.entry.Entry.{Entry}
@@ -9,26 +9,6 @@ use Rattle.rules.specs.Tables.{size, rows, rows_of, starts, table, Row, leaf, no
 use Rattle.rules.specs.Views.{children_of, row_of}
 use Rattle.rules.specs.WriterSteps.{mark_at, Spellable, Spelt, ItemsSpellable, ItemsSpelt, CanSpell, CanSpellItems}
 use Rattle.rules.proofs.Rows.{starts_length, rows_length, size_some, opening_length, marked_length, gate_length, within}
-
-pub decimal_2 : (n : ℕ) → 10 ≤ n → n < 100 → decimal n ≡ (48 + n / 10) ∷ (48 + n % 10) ∷ []
-unfolding decimal
-decimal_2 n h g = rw (le-ltb n 10 h, lt-ltb n 100 g)
-
-pub decimal_3 : (n : ℕ) → 100 ≤ n → decimal n ≡ (48 + n / 100) ∷ (48 + n / 10 % 10) ∷ (48 + n % 10) ∷ []
-unfolding decimal
-decimal_3 n g = rw (le-ltb n 10 (omega arith), le-ltb n 100 g)
-
-pub opening_any : (k n : ℕ) → k ≡ 1 → opening k n ≡ 97 ∷ 110 ∷ 121 ∷ []
-unfolding opening
-opening_any k n e = rw (eq-eqb k 1 e)
-
-pub opening_all : (k n : ℕ) → (k ≡ 1 → ⊥) → k ≡ n → opening k n ≡ 97 ∷ 108 ∷ 108 ∷ []
-unfolding opening
-opening_all k n p e = rw (ne_eqb k 1 p, eq-eqb k n e)
-
-pub opening_of : (k n : ℕ) → (k ≡ 1 → ⊥) → (k ≡ n → ⊥) → opening k n ≡ (48 + k) ∷ 111 ∷ 102 ∷ []
-unfolding opening
-opening_of k n p q = rw (ne_eqb k 1 p, ne_eqb k n q)
 
 depth_some : (r : Rule) → 1 ≤ depth_below r
 depth_some (key n) = omega arith

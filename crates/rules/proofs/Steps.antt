@@ -1,5 +1,5 @@
 -- The account, step by step, at the starts of a text.
-use Rattle.std.proofs.Common.{◌≡◌, ℕ, ◌+◌, ◌-◌, ◌<◌, ◌≤◌, true, false, ◌&&◌, leb, List, [], ◌∷◌, length, get_or, drop, Ok, Err, Result, Some, None, Option, slice_get, sym, refl, ap, ◌∙◌, arith, eq-eqb, ne_eqb, le-leb}
+use Rattle.std.proofs.Common.{◌≡◌, ℕ, ◌+◌, ◌-◌, ◌<◌, ◌≤◌, false, ◌&&◌, leb, List, [], ◌∷◌, length, get_or, drop, Ok, Err, Result, Some, None, Option, slice_get, sym, refl, ap, ◌∙◌, arith, eq-eqb, ne_eqb, le-leb}
 use native.Mathlib.Decide.{dec_lt}
 use borrow.Author.Tests.{lt-leb}
 use Rattle.std.proofs.lemmas.Option.{slice_get_within, slice_get-get_or, get_or_from_slice_get}
@@ -139,9 +139,6 @@ outside_lo m n b h = rw (lt-leb m b h)
 
 pub outside_hi : (m n b : ℕ) → m ≤ b → n < b → (leb m b && leb b n) ≡ false
 outside_hi m n b g h = rw (le-leb m b g, lt-leb b n h)
-
-pub within : (m n b : ℕ) → m ≤ b → b ≤ n → (leb m b && leb b n) ≡ true
-within m n b g h = rw (le-leb m b g, le-leb b n h)
 
 module _ (s : List ℕ) (at : ℕ) where
   module _ (a : slice_get s at ≡ Some 97) where

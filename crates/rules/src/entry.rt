@@ -1,8 +1,13 @@
 // The entries of a rule's table.
 use bounded::Row;
 
+pub(crate) const MOST_ITEMS: usize = 8;
+
+// how many entries a text can begin before it is refused
+const MOST_BEGUN: usize = 40;
+
 // The positions of a gate's children, at most eight.
-pub type Children = Row<u8, 8>;
+pub type Children = Row<u8, MOST_ITEMS>;
 
 // A leaf has its key's number and the byte of the text at which its K stands;
 // a gate wants `threshold` of its children.
@@ -16,6 +21,6 @@ pub enum Entry {
 // gates close, a text that will be refused can have begun a few more.
 #[derive(Clone, Copy)]
 pub struct Entries {
-    pub(crate) list: Row<Entry, 40>,
+    pub(crate) list: Row<Entry, MOST_BEGUN>,
     pub(crate) keys: usize,
 }

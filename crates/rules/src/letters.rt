@@ -1,6 +1,5 @@
 // The smallest parts of a rule's text: letters, numbers, and the heads of gates.
 ghost use Rattle.std.specs.Prelude.{◌≡◌, ◌+◌, ◌≤◌, ◌&&◌, nat_le, false, length, MatchOption, MatchResult, slice_get, slice_index};
-ghost use Rattle.rules.specs.Faults.{threshold, fits};
 ghost use Rattle.rules.specs.ReaderSteps.{Numbered, Unnumbered, Passed, NotPassed, Headed, Unheaded, Begins};
 
 use crate::head::Head;
@@ -105,29 +104,6 @@ impl<'a> Letters<'a> {
                 }
                 None => Err(Refusal::GateDigit(self.at)),
             },
-        }
-    }
-}
-
-impl Head {
-    // May a gate close with so many items?
-    pub(crate) fn may_close(self, n: u8) -> bool
-        ensures { result ≡ fits self n }
-    {
-        match self {
-            Head::All | Head::Any => 2 <= n,
-            Head::Of(k) => k < n,
-        }
-    }
-
-    // How many of its n items a gate wants.
-    pub(crate) fn wanted(self, n: u8) -> u8
-        ensures { result ≡ threshold self n }
-    {
-        match self {
-            Head::All => n,
-            Head::Any => 1,
-            Head::Of(k) => k,
         }
     }
 }

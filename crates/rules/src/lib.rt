@@ -1,7 +1,6 @@
 // Rules: their texts, read into a table and written again.
 #![tactic(auto)]
 
-mod access;
 mod again;
 pub mod entry;
 mod head;

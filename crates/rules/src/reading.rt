@@ -4,7 +4,7 @@ ghost use Rattle.rules.specs.ReaderSteps.{Room, Item, Refused, Items, ItemsRefus
 ghost use Rattle.rules.specs.Texts.{rows_in, Read, Faulty};
 ghost use Rattle.rules.specs.Views.{children_of};
 
-use crate::entry::{Children, Entries, Entry};
+use crate::entry::{Children, Entries, Entry, MOST_ITEMS};
 use crate::letters::Letters;
 use crate::table::Table;
 use bounded::Row;
@@ -13,8 +13,6 @@ use refusals::Refusal;
 pub(crate) const MOST_BYTES: usize = 240;
 
 const MOST_KEYS: usize = 16;
-
-const MOST_ITEMS: usize = 8;
 
 pub(crate) const MOST_DEPTH: u8 = 8;
 
