@@ -8,10 +8,11 @@ use refusals::Refusal;
 const MOST_NUMBER: u32 = 255;
 
 // The letters of a text, read from left to right up to a place.
-#[derive(Clone, Copy)]
+#[derive(Drop)]
 pub struct Letters<'a> {
     pub(crate) text: &'a [u8],
     pub(crate) at: u8,
+    ghost short: { length text.now ≤ 240 },
 }
 
 impl<'a> Letters<'a> {
@@ -36,7 +37,6 @@ impl<'a> Letters<'a> {
 
     // The number that stands here in digits.
     pub(crate) fn number(&mut self) -> Result<u8, Refusal>
-        requires { length self.old.text.now ≤ 240 }
         ensures same { self.new.text ≡ self.old.text }
         ensures numbered { MatchResult result (λ n. Numbered self.old.text.now self.old.at n self.new.at) (λ x. Unnumbered self.old.text.now self.old.at x) }
     {
@@ -59,7 +59,6 @@ impl<'a> Letters<'a> {
 
     // Past these letters, which must come next.
     fn pass(&mut self, letters: &[u8]) -> Result<(), Refusal>
-        requires { length self.old.text.now ≤ 240 }
         ensures same { self.new.text ≡ self.old.text }
         ensures passed { MatchResult result (λ _. Passed self.old.text.now self.old.at letters.now self.new.at) (λ x. NotPassed self.old.text.now self.old.at letters.now x) }
     {
@@ -74,8 +73,7 @@ impl<'a> Letters<'a> {
 
     // A gate's head with its bracket.
     pub(crate) fn heading(&mut self) -> Result<Head, Refusal>
-        requires short { length self.old.text.now ≤ 240 }
-        requires begins { Begins (slice_index self.old.text.now self.old.at) }
+        requires { Begins (slice_index self.old.text.now self.old.at) }
         ensures same { self.new.text ≡ self.old.text }
         ensures headed { MatchResult result (λ h. Headed self.old.text.now self.old.at h self.new.at) (λ x. Unheaded self.old.text.now self.old.at x) }
     {

@@ -17,7 +17,7 @@ const MOST_KEYS: usize = 16;
 pub(crate) const MOST_DEPTH: u8 = 8;
 
 // A rule's text as it is read, and the entries read so far.
-#[derive(Clone, Copy)]
+#[derive(Drop)]
 pub struct Reader<'a> {
     pub(crate) letters: Letters<'a>,
     pub(crate) entries: Entries,
@@ -25,7 +25,6 @@ pub struct Reader<'a> {
 
 impl<'a> Reader<'a> {
     fn leaf(&mut self, depth: u8) -> Result<(), Refusal>
-        requires short { length self.old.letters.text.now ≤ 240 }
         requires room { Room depth self.old.entries }
         requires is { slice_get self.old.letters.text.now self.old.letters.at ≡ Some 75 }
         ensures same { self.new.letters.text ≡ self.old.letters.text }
@@ -47,8 +46,7 @@ impl<'a> Reader<'a> {
 
     #[cycle(gate_item_items)]
     fn item(&mut self, depth: u8) -> Result<(), Refusal>
-        requires short { length self.old.letters.text.now ≤ 240 }
-        requires room { Room depth self.old.entries }
+        requires { Room depth self.old.entries }
         ensures same { self.new.letters.text ≡ self.old.letters.text }
         ensures read { MatchResult result (λ _. Item self.old.letters.text.now self.old.letters.at depth self.old.entries self.new.entries self.new.letters.at) (λ x. Refused self.old.letters.text.now self.old.letters.at depth self.old.entries.keys x) }
     {
@@ -61,7 +59,6 @@ impl<'a> Reader<'a> {
 
     #[cycle(gate_item_items)]
     fn gate(&mut self, depth: u8) -> Result<(), Refusal>
-        requires short { length self.old.letters.text.now ≤ 240 }
         requires room { Room depth self.old.entries }
         requires is { Begins (slice_index self.old.letters.text.now self.old.letters.at) }
         ensures same { self.new.letters.text ≡ self.old.letters.text }
@@ -94,8 +91,7 @@ impl<'a> Reader<'a> {
     // A gate's items, up to the place of its `)`.
     #[cycle(gate_item_items)]
     fn items(&mut self, depth: u8) -> Result<Children, Refusal>
-        requires short { length self.old.letters.text.now ≤ 240 }
-        requires room { Room depth self.old.entries }
+        requires { Room depth self.old.entries }
         ensures same { self.new.letters.text ≡ self.old.letters.text }
         ensures read { MatchResult result (λ children. Items self.old.letters.text.now self.old.letters.at depth [] (children_of children) self.old.entries self.new.entries self.new.letters.at) (λ x. ItemsRefused self.old.letters.text.now self.old.letters.at depth 0 self.old.entries.keys x) }
     {

@@ -10,8 +10,8 @@ use Rattle.rules.proofs.reading.read.Goals.{then-is_empty-via-then-is_empty, the
 pub returns-then-is_empty : goal.returns-then-is_empty
 returns-then-is_empty c = read_length c.args.text.now (elim c.then-is_empty.branch [ then-is_empty-via-then-is_empty w ↦ inl (eqb-true (length c.args.text.now) 0 (sym c.is_empty.ensures ∙ w.if-is_empty.true)) | then-is_empty-via-else-is_empty+then-text-gt-MOST_BYTES w ↦ inr w.if-text-gt-MOST_BYTES.true ])
 
-pub item-requires-clause-room : goal.item-requires-clause-room
-item-requires-clause-room c =
+pub item-requires : goal.item-requires
+item-requires c =
     let new : Entries = record { list = c.blank.result; keys = 0 } in
     let none = ap length (listing_none new c.blank.ensures.none) in
     record { shallow = omega arith; few = omega arith; room = omega (arith, none) }

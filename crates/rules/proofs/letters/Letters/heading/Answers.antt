@@ -50,6 +50,6 @@ returns-in-None-clause-headed c =
     elim c.in_default.branch [
       | in_default-via-in-Some+in_default w ↦
           (let f = get_or_from_slice_get s at _ 0 (sym w.in_default.ensures) in
-          unheaded_digit s at (λ e. omega (arith, f, e, w.in_default.field-0-test, w.in_default.field-0-is)) c.requires.begins c.in-None.ensures)
-      | in_default-via-in_default w ↦ unheaded_digit s at (beyond s at 97 (sym c.peek.ensures ∙ w.in_default.is) (lit< tt)) c.requires.begins c.in-None.ensures
+          unheaded_digit s at (λ e. omega (arith, f, e, w.in_default.field-0-test, w.in_default.field-0-is)) c.requires c.in-None.ensures)
+      | in_default-via-in_default w ↦ unheaded_digit s at (beyond s at 97 (sym c.peek.ensures ∙ w.in_default.is) (lit< tt)) c.requires c.in-None.ensures
     ]

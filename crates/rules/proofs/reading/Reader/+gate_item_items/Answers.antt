@@ -28,7 +28,7 @@ gate-items-requires t c =
     let old = c.args.self.now.entries in
     let opened : Entries = record { list = c.push.new.self; keys = old.keys } in
     let more : length (listing opened) ≡ length (listing old) + 1 = ap length (listing_push old opened (Leaf 0 0) c.push.ensures) ∙ length-append (listing old) (row_of (Leaf 0 0) ∷ []) in
-    (omega arith, (omega (arith, ap (λ t. length t.now) c.in_ok-head.ensures.same), record { shallow = omega arith; few = omega arith; room = omega (arith, more) }))
+    (omega arith, record { shallow = omega arith; few = omega arith; room = omega (arith, more) })
 
 pub gate-returns-then-not-may_close-clause-read : goal.gate-returns-then-not-may_close-clause-read
 gate-returns-then-not-may_close-clause-read t c =
