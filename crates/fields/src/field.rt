@@ -44,7 +44,7 @@ pub trait Field {
     // what each implementation proves
     ghost lawful: { (s : Self) → FieldLaws (model s) };
 
-    // elements that compare as equal are the same
+    // elements compare as equal where they are the same, and nowhere else
     ghost same: { (a b : Self.Element) → Decides (Self.Element.eq a b) (a ≡ b) };
 
     // arrays of elements fit in memory

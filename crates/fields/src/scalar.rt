@@ -5,7 +5,7 @@ ghost use Rattle.std.specs.Prelude.{◌≡◌};
 pub struct Scalar(u32);
 
 impl Scalar {
-    // kept: `new` and `value`, not `From`: a type inferred behind `.into()` would hide which of the struct's neighbours, `Scalar` or `Residue`, a number becomes
+    // kept: `new` and `value` read as plainly as `From` both ways, and no number becomes a scalar, or a residue, by an `into` that nobody sees
     pub fn new(value: u32) -> Scalar
         ensures { result.0 ≡ value }
     {

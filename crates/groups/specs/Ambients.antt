@@ -1,8 +1,8 @@
 -- What a group of prime order is cut from, as one value, and the group.
---   AmbientModel E           for each modulus p a product on some of the values of E, which orders fit p, which elements are of
---                            order q, which of them is neutral, and the two words of an element
+--   AmbientModel E           for each modulus p a product on some of the values of E, which orders fit p, which elements have
+--                            a neutral q-th power, which of them is neutral, and the two words of an element
 --   AmbientLaws a            the laws
---   group_elements a q p     the elements of order q modulo p under the product
+--   group_elements a q p     the elements modulo p whose q-th power is neutral, under the product
 --   base a q p x             x is such an element, and not the neutral one
 --   group_model a q p g h    the group
 --   group_refusal a q p g h  why the group is not made

@@ -21,7 +21,7 @@ impl Circle {
     pub fn new(p: u32) -> Option<Circle>
         ensures { MatchOption result ((1 < p → p ≤ 2147483647 → ⊥)) (λ s. s.p ≡ p) }
     {
-        // kept: `then_some` would make the value before the test that it stands by
+        // kept: `then_some` would make the value before the test that it stands by, and the closure of `then` needs a `requires` of its own
         if p > 1 && p <= 2147483647 {
             Some(Circle { p })
         } else {

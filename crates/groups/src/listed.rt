@@ -6,7 +6,7 @@ ghost use Rattle.fields.specs.Primes.{in_range};
 
 use refusals::{Parameter, Refusal};
 
-// An order q and a modulus p, both from 11 to 2,147,483,647.
+// An order q and a modulus p that groups are made of, with the bounds that their products stand on.
 #[derive(Clone, Copy)]
 pub struct Parameters {
     pub(crate) q: u32,

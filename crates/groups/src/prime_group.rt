@@ -13,7 +13,7 @@ use refusals::{Base, Refusal};
 use std::alloc::AllocError;
 
 // The values below p whose q-th power is neutral, with two of them, g and h.
-// kept: q and p as two fields, and not as `Parameters`: the clauses of other crates name them
+// kept: q and p as two fields: as one of type `Parameters` they are read through one more name in each clause about a group, here and outside, and nothing gets shorter
 #[derive(Copy)]
 pub struct PrimeGroup<E: Modular> {
     pub(crate) q: u32,

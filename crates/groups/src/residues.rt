@@ -20,7 +20,7 @@ impl Residues {
     pub fn new(p: u32) -> Option<Residues>
         ensures { MatchOption result (p ≤ 1) (λ s. s.p ≡ p) }
     {
-        // kept: `then_some` would make the value before the test that it stands by
+        // kept: `then_some` would make the value before the test that it stands by, and the closure of `then` needs a `requires` of its own
         if p > 1 { Some(Residues { p }) } else { None }
     }
 }

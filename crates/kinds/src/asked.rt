@@ -39,7 +39,7 @@ pub fn neutral_image<S: LeafKinds>(set: &S, kind: u8) -> Image
     set.neutral(kind)
 }
 
-// The product of two images that are known to be images: no test is made.
+// The product of two images that are known to be images: no power is taken to test it.
 pub fn product_of_images<S: LeafKinds>(set: &S, kind: u8, a: &Image, b: &Image) -> Image
     requires { (T (((S.LeafKinds.meaning set.now).kind kind).is_image a.now)) × (T (((S.LeafKinds.meaning set.now).kind kind).is_image b.now)) }
     ensures { result ≡ ((S.LeafKinds.meaning set.now).kind kind).product a.now b.now }
@@ -58,7 +58,7 @@ pub fn image_product<S: LeafKinds>(set: &S, kind: u8, a: &Image, b: &Image) -> I
     }
 }
 
-// The power of an image that is known to be one: no test is made.
+// The power of an image that is known to be one: no power is taken to test it.
 pub fn power_of_image<S: LeafKinds>(set: &S, kind: u8, image: &Image, exponent: u32) -> Image
     requires { T (((S.LeafKinds.meaning set.now).kind kind).is_image image.now) }
     ensures value { result ≡ nth (images ((S.LeafKinds.meaning set.now).kind kind)) image.now exponent }
