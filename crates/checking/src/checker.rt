@@ -11,3 +11,15 @@ pub struct Checker<'a, S: LeafKinds> {
     pub rule: &'a Rule,
     ghost setting: { ∥ Setting (S.LeafKinds.meaning set.now) (rule_in rule.now) ∥₁ },
 }
+
+impl<'a, S: LeafKinds> Checker<'a, S> {
+    ghost use Rattle.std.specs.Prelude.{◌≡◌};
+
+    // A rule, with the set that it was built over.
+    pub fn new(set: &'a S, rule: &'a Rule) -> Checker<'a, S>
+        requires { Setting (S.LeafKinds.meaning set.now) (rule_in rule.now) }
+        ensures { (result.set.now ≡ set.now) × (result.rule.now ≡ rule.now) }
+    {
+        Checker { set, rule }
+    }
+}
