@@ -1,4 +1,5 @@
 // Arithmetic of numbers below a modulus, in 64 bits.
+// kept: `as u32` at what is below the modulus: the check proves that nothing is lost, and a `TryFrom` would have a refusal that never comes
 ghost use Rattle.std.specs.Prelude.{◌≡◌, ◌<◌};
 ghost use Rattle.fields.specs.Modular.{sum_mod, difference_mod, negative_mod, product_mod};
 
@@ -6,14 +7,14 @@ pub fn sum(m: u32, a: u32, b: u32) -> u32
     requires { (a < m) × (b < m) }
     ensures { result ≡ sum_mod m a b }
 {
-    ((a as u64 + b as u64) % m as u64) as u32
+    ((u64::from(a) + u64::from(b)) % u64::from(m)) as u32
 }
 
 pub fn difference(m: u32, a: u32, b: u32) -> u32
     requires { (a < m) × (b < m) }
     ensures { result ≡ difference_mod m a b }
 {
-    ((a as u64 + (m - b) as u64) % m as u64) as u32
+    ((u64::from(a) + u64::from(m - b)) % u64::from(m)) as u32
 }
 
 pub fn negative(m: u32, a: u32) -> u32
@@ -27,5 +28,5 @@ pub fn product(m: u32, a: u32, b: u32) -> u32
     requires { 0 < m }
     ensures { result ≡ product_mod m a b }
 {
-    (a as u64 * b as u64 % m as u64) as u32
+    (u64::from(a) * u64::from(b) % u64::from(m)) as u32
 }

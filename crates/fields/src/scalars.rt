@@ -86,7 +86,7 @@ impl Field for Scalars {
     }
 
     fn point(&self, j: u8) -> Scalar {
-        Scalar::new(j as u32)
+        Scalar::new(u32::from(j))
     }
 
     fn sum(&self, a: Scalar, b: Scalar) -> Scalar {

@@ -64,7 +64,7 @@ fn same_as(q: u64, challenges: &[Option<u32>], children: &[Scalar]) -> bool
     requires { 0 < q }
 {
     children.iter().enumerate().all(|(j, child)| {
-        child.value() as u64 == lagrange(q, challenges, (j as u64).wrapping_add(1))
+        u64::from(child.value()) == lagrange(q, challenges, (j as u64).wrapping_add(1))
     })
 }
 
@@ -97,7 +97,7 @@ fn holds(field: &Scalars, n: usize, own: u32, known: u32, values: [u32; 8]) -> b
     let children = &mut room[..n];
     split(field, own, known, children);
     let k = unknown(known);
-    agrees(field.order() as u64, own, known, &given[..n], children)
+    agrees(u64::from(field.order()), own, known, &given[..n], children)
         && balances(field, k, own, children)
         && (k == 0 || changes_refused(field, k, own, children))
 }

@@ -22,7 +22,7 @@ fn inverse(q: u64, a: u64) -> u64
 fn part(q: u64, known: &[Option<u32>], i: usize, y: u32, x: u64) -> u64
     requires { 0 < q }
 {
-    let mut above = y as u64;
+    let mut above = u64::from(y);
     let mut below = 1u64;
     for (j, challenge) in known.iter().enumerate() {
         if j != i && challenge.is_some() {
