@@ -19,6 +19,7 @@ pub enum Entry {
 
 // The entries read so far, and how many of them are leaves. A table that was read has at most 31; before its last
 // gates close, a text that will be refused can have begun a few more.
+// kept: leaves are counted as they come, since a count at each leaf would go through the list again
 #[derive(Clone, Copy)]
 pub struct Entries {
     pub(crate) list: Row<Entry, MOST_BEGUN>,

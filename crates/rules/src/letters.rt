@@ -8,6 +8,7 @@ use refusals::Refusal;
 const MOST_NUMBER: u32 = 255;
 
 // The letters of a text, read from left to right up to a place.
+// kept: each function that goes on says that the text stays the same, which no type of a field can say
 #[derive(Drop)]
 pub struct Letters<'a> {
     pub(crate) text: &'a [u8],
@@ -29,6 +30,7 @@ impl<'a> Letters<'a> {
         requires { (48 ≤ least) × (most ≤ 57) }
         ensures { let next = slice_index self.now.text.now self.now.at in MatchOption result ((nat_le least next && nat_le next most) ≡ false) (λ d. (least ≤ next) × ((next ≤ most) × (next ≡ 48 + d))) }
     {
+        // kept: tried `(least..=most).contains(&letter)`, the proof did not close
         match self.peek() {
             Some(letter) if least <= letter && letter <= most => Some(letter as u8 - b'0'),
             _ => None,
