@@ -8,10 +8,6 @@ abbrev pub prefixed : List ℕ → Result (List ℕ) Fault → Result (List ℕ)
 prefixed xs (Ok ys) = Ok (xs ++ ys)
 prefixed xs (Err why) = Err why
 
-pub prefixed_none : (r : Result (List ℕ) Fault) → prefixed [] r ≡ r
-prefixed_none (Ok ys) = refl
-prefixed_none (Err why) = refl
-
 pub prefixed_more : (xs : List ℕ) (x : ℕ) (r : Result (List ℕ) Fault) → prefixed xs (before (Ok x) r) ≡ prefixed (xs ++ x ∷ []) r
 prefixed_more xs x (Ok ys) = ap Ok (sym (append_assoc xs (x ∷ []) ys))
 prefixed_more xs x (Err why) = refl

@@ -1,7 +1,7 @@
 -- Decimal numbers, read digit by digit.
-use Rattle.std.proofs.Common.{◌≡◌, ℕ, ◌+◌, ◌-◌, ◌*◌, ◌<◌, ◌≤◌, Bool, true, false, cond, ◌&&◌, eqb, ltb, List, [], ◌∷◌, length, Some, None, refl, ap, arith}
-use Rattle.std.proofs.lemmas.Bool.{le-ltb, ltb-true, ltb-false, both_ways, cond_below}
-use Rattle.words.specs.Bytes.{is_digit, digits, decimal, continued, number}
+use Rattle.std.proofs.Common.{◌≡◌, ℕ, ◌+◌, ◌-◌, ◌*◌, ◌≤◌, Bool, true, false, cond, ◌&&◌, ltb, List, [], ◌∷◌, Some, None, refl, ap, arith}
+use Rattle.std.proofs.lemmas.Bool.{le-ltb, ltb-false}
+use Rattle.words.specs.Bytes.{is_digit, digits, decimal, continued}
 
 pub decimal_grows : (n : ℕ) (w : List ℕ) → n ≤ decimal n w
 decimal_grows n [] = omega arith
@@ -32,23 +32,3 @@ some_by : (d f : Bool) (n v : ℕ) (w : List ℕ) → cond ((d && true) && f) (S
 some_by true true n v w h = let e : n ≡ v = cc in ap (λ x. continued x w) e
 some_by true false n v w h = let z : ◌≡◌ {A = ℕ} 0 1 = cc in absurd (omega arith)
 some_by false f n v w h = let z : ◌≡◌ {A = ℕ} 0 1 = cc in absurd (omega arith)
-
--- one digit more
-pub continued_some : (n b : ℕ) (w : List ℕ) (v : ℕ) → continued n (b ∷ []) ≡ Some v → continued n (b ∷ w) ≡ continued v w
-continued_some n b w v h = let m = n * 10 + (b - 48) in some_by (is_digit b) (ltb m 4294967296) m v w h
-
-pub number_some : (w : List ℕ) → eqb (length w) 0 ≡ false → number w ≡ continued 0 w
-number_some [] e = absurd (both_ways _ e refl)
-number_some (b ∷ w) e = refl
-
-fits_by : (d f : Bool) (n v : ℕ) → ltb n 4294967296 ≡ f → cond ((d && true) && f) (Some n) None ≡ Some v → v < 4294967296
-fits_by true true n v t h = let e : n ≡ v = cc in let low = ltb-true n 4294967296 t in omega arith
-fits_by true false n v t h = let z : ◌≡◌ {A = ℕ} 0 1 = cc in absurd (omega arith)
-fits_by false f n v t h = let z : ◌≡◌ {A = ℕ} 0 1 = cc in absurd (omega arith)
-
-pub continued_fits : (n b v : ℕ) → continued n (b ∷ []) ≡ Some v → v < 4294967296
-continued_fits n b v h = let m = n * 10 + (b - 48) in fits_by (is_digit b) (ltb m 4294967296) m v refl h
-
--- a number that fits is read whole
-pub continued_all : (n : ℕ) → n < 4294967296 → Some n ≡ continued n []
-continued_all n h = cond_below n 4294967296 (Some n) None h

@@ -1,19 +1,10 @@
 use Rattle.std.proofs.Common.{◌≡◌, ℕ, suc, ◌+◌, ◌-◌, ◌<◌, ◌≤◌, List, length, take, set, Ok, Err, Result, sym, ap, ◌∙◌, arith}
-use Rattle.std.proofs.lemmas.List.{length-replicate, length-set, take_more_set, take_all}
+use Rattle.std.proofs.lemmas.List.{length-set, take_more_set, take_all}
 use Rattle.std.proofs.lemmas.Result.{err_from_is_err_and}
 use Rattle.words.specs.declared.fault.Fault.{Fault}
 use Rattle.words.specs.Words.{numbers_at, following, after_word}
-use Rattle.words.proofs.Listing.{prefixed, prefixed_none, numbers_stop, numbers_more, numbers_unended, numbers_ended}
+use Rattle.words.proofs.Listing.{prefixed, numbers_stop, numbers_more, numbers_unended, numbers_ended}
 use Rattle.words.proofs.words.Words.numbers.Goals as goal
-
-pub loop-number-init : goal.loop-number-init
-loop-number-init g c =
-    let place = c.args.self.now.place in
-    let rest = c.args.self.now.rest.now in
-    let all : g.row.N ≡ g.row.N - 0 = omega arith in (
-      length-replicate g.row.N 0,
-      ap (λ n. numbers_at n place rest) all ∙ sym (prefixed_none (numbers_at (g.row.N - 0) place rest)),
-    )
 
 pub returns-in_err-number : goal.returns-in_err-number
 returns-in_err-number g c =
