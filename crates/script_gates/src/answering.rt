@@ -64,6 +64,7 @@ fn filled(scalars: &Scalars, gate: &Gate) -> Result<Children, Fault>
 {
     let (own, taken) = challenges(scalars, gate)?;
     let known = gate.children.map(false, |child| child.is_some());
+    // kept: a row lends no slice to write to, so the children are split in an array
     let mut slots = [own; 8];
     let children = &mut slots[..taken.len()];
     children.copy_from_slice(&taken);

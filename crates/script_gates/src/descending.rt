@@ -26,6 +26,7 @@ fn split(
 {
     let own = scalar(scalars, 4, challenge)?;
     let shares = take_scalars(scalars, 5, numbers)?;
+    // kept: a row lends no slice to write to, so the challenges are written to an array
     let mut slots = [own; 31];
     let challenges = &mut slots[..table.len()];
     split_down(scalars, table, own, &shares, challenges);
