@@ -25,6 +25,7 @@ pub fn split_gate<F: Field>(
     requires rising { (i j : ℕ) → i < j → j < length (children_of children.now) → get_or (children_of children.now) i 0 < get_or (children_of children.now) j 0 }
     ensures { AtGate (F.Field.model field.now) threshold (children_of children.now) own shares.now challenges.old challenges.new }
 {
+    // kept: an array and its front: a row is not lent for writing, since the check covers no loan of a part of an array whose length is a parameter
     let mut room = [own; 8];
     let row = &mut room[..children.len()];
     let share = children.len() - threshold;

@@ -6,7 +6,8 @@
 --   Numbered, Passed, Headed, Item, Items        a key's digits were read; these letters of a gate's head; the whole head; an
 --                                                item; a gate's items up to the ')'
 --   Unnumbered, NotPassed, Unheaded, Refused, ItemsRefused   each of them with a fault instead
-use Rattle.std.specs.Prelude.{◌≡◌, ℕ, suc, ◌+◌, ◌*◌, ◌<◌, ◌≤◌, List, [], ◌∷◌, ◌++◌, length, drop, Ok, Err, Result, ◌≢◌}
+--   ItemRead               an item was read, or there was a fault
+use Rattle.std.specs.Prelude.{◌≡◌, ℕ, suc, ◌+◌, ◌*◌, ◌<◌, ◌≤◌, List, [], ◌∷◌, ◌++◌, length, drop, Ok, Err, Result, MatchResult, ◌≢◌}
 use Rattle.refusals.specs.declared.Refusal.{Refusal}
 use Rattle.rules.specs.declared.entry.Entries.{Entries}
 use Rattle.rules.specs.declared.head.Head.{Head}
@@ -71,6 +72,9 @@ pub record Item (s : List ℕ) (at depth : ℕ) (t t' : Entries) (end : ℕ) : T
 
 abbrev pub Refused : List ℕ → ℕ → ℕ → ℕ → Refusal → Type 0
 Refused s at depth k x = (gs : List Open) → length gs + depth ≡ 8 → from s (state gs k item) at ≡ Err x
+
+abbrev pub ItemRead : {X : Type 0} → List ℕ → ℕ → ℕ → Entries → Entries → ℕ → Result X Refusal → Type 0
+ItemRead s at depth t t' end r = MatchResult r (λ _. Item s at depth t t' end) (λ x. Refused s at depth t.keys x)
 
 pub record Items (s : List ℕ) (at depth : ℕ) (c c' : List ℕ) (t t' : Entries) (end : ℕ) : Type 0 where
   pub one : Rule

@@ -1,6 +1,6 @@
 // Reads a rule's text by recursive descent: an item calls the reader of a gate's items and back, the depth left falling.
 ghost use Rattle.std.specs.Prelude.{◌≡◌, ◌+◌, ◌<◌, ◌≤◌, [], length, MatchResult, Some, slice_get, slice_index};
-ghost use Rattle.rules.specs.ReaderSteps.{Room, Item, Refused, Items, ItemsRefused, Begins};
+ghost use Rattle.rules.specs.ReaderSteps.{Room, ItemRead, Items, ItemsRefused, Begins};
 ghost use Rattle.rules.specs.Texts.{rows_in, Read, Faulty};
 ghost use Rattle.rules.specs.Views.{children_of};
 
@@ -28,7 +28,7 @@ impl<'a> Reader<'a> {
         requires room { Room depth self.old.entries }
         requires is { slice_get self.old.letters.text.now self.old.letters.at ≡ Some 75 }
         ensures same { self.new.letters.text ≡ self.old.letters.text }
-        ensures read { MatchResult result (λ _. Item self.old.letters.text.now self.old.letters.at depth self.old.entries self.new.entries self.new.letters.at) (λ x. Refused self.old.letters.text.now self.old.letters.at depth self.old.entries.keys x) }
+        ensures read { ItemRead self.old.letters.text.now self.old.letters.at depth self.old.entries self.new.entries self.new.letters.at result }
     {
         let place = self.letters.at;
         if depth == 0 {
@@ -48,7 +48,7 @@ impl<'a> Reader<'a> {
     fn item(&mut self, depth: u8) -> Result<(), Refusal>
         requires { Room depth self.old.entries }
         ensures same { self.new.letters.text ≡ self.old.letters.text }
-        ensures read { MatchResult result (λ _. Item self.old.letters.text.now self.old.letters.at depth self.old.entries self.new.entries self.new.letters.at) (λ x. Refused self.old.letters.text.now self.old.letters.at depth self.old.entries.keys x) }
+        ensures read { ItemRead self.old.letters.text.now self.old.letters.at depth self.old.entries self.new.entries self.new.letters.at result }
     {
         match self.letters.peek() {
             Some('K') => self.leaf(depth),
@@ -62,7 +62,7 @@ impl<'a> Reader<'a> {
         requires room { Room depth self.old.entries }
         requires is { Begins (slice_index self.old.letters.text.now self.old.letters.at) }
         ensures same { self.new.letters.text ≡ self.old.letters.text }
-        ensures read { MatchResult result (λ _. Item self.old.letters.text.now self.old.letters.at depth self.old.entries self.new.entries self.new.letters.at) (λ x. Refused self.old.letters.text.now self.old.letters.at depth self.old.entries.keys x) }
+        ensures read { ItemRead self.old.letters.text.now self.old.letters.at depth self.old.entries self.new.entries self.new.letters.at result }
     {
         if depth == 0 {
             return Err(Refusal::TooDeep(self.letters.at));

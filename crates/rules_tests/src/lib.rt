@@ -8,6 +8,7 @@ mod tests {
     use std::test::Fail;
 
     // Number and place of the refusal, or none for a text that reads.
+    // kept: number and place are what users are told, so they are what is expected here
     fn told(text: &[u8]) -> Option<(u8, u32)> {
         let refusal = read(text).err()?;
         Some((refusal.number(), refusal.place()))

@@ -2,7 +2,7 @@
 --   operation_of w             the operation that the word w names
 --   operation_at place bs      the first word of bs as an operation
 --   scalar_command place bs    the command from the words after `scalar`
---   order_refusal q            the reply where no scalars count modulo q
+--   order_refusal q            the refusal where no scalars count modulo q
 --   Computed op q a b r        r is what the operation on a and b modulo q comes to
 --   Answered op q a b r        the same, where a and b may be no scalars
 --   ComesTo c r               r is the answer to the command c

@@ -154,7 +154,7 @@ impl Session {
         }
     }
 
-    // Reads a line and obeys it: what came of it, or what was expected; nothing where there is no command.
+    // Reads a line and obeys it: what came of it, what was expected, or why it is refused; nothing where there is no command.
     pub fn answer(&mut self, line: &[u8]) -> Result<Option<Reply>, Unanswered>
         ensures { Answers (model self.old) line.now result (model self.new) }
     {

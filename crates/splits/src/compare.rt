@@ -21,6 +21,7 @@ pub fn balances<F: Field>(field: &F, k: usize, own: F::Element, children: &[F::E
     requires elements { let m = F.Field.model field.now in (T (m.member own)) × (Members m children.now) }
     ensures { let m = F.Field.model field.now in (T result → Balanced m k own children.now) × (Balanced m k own children.now → T result) }
 {
+    // kept: an array and its front: a row is not lent for writing, since the check covers no loan of a part of an array whose length is a parameter
     let mut room = [own; 8];
     let expected = &mut room[..children.len()];
     expected.copy_from_slice(children);

@@ -29,9 +29,9 @@ fn fill<F: Field>(
     }
 }
 
-// kept: `known` beside `children`, not options: the children are split in place, where they lie among others, and marks are computed apart from values
 // Splits the own challenge of a gate: keeps the challenges of the known children and writes the others'. The gate wants as many children as are not known.
 // With n children of which d are known: d quotients, and d * n products besides.
+// kept: marks beside the children, not options: a simulated gate knows its first children by place alone, and what is kept is said by the marks
 pub fn split<F: Field>(field: &F, own: F::Element, known: &[bool], children: &mut [F::Element])
     requires sizes { (length known.now ≡ length children.old) × (length children.old ≤ 8) }
     requires elements { let m = F.Field.model field.now in (T (m.member own)) × (Members m children.old) }
@@ -45,6 +45,7 @@ pub fn split<F: Field>(field: &F, own: F::Element, known: &[bool], children: &mu
     let nodes = pick(field.point(0), known, points);
     let values = pick(own, known, children);
     let (nodes, values) = (nodes.as_slice(), values.as_slice());
+    // kept: an array and its front: a row is not lent for writing, since the check covers no loan of a part of an array whose length is a parameter
     let mut room = [own; 9];
     let coefficients = &mut room[..values.len()];
     coefficients.copy_from_slice(values);
