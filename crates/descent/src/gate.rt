@@ -1,9 +1,8 @@
 // Splitting at one gate of a rule.
-ghost use Rattle.std.specs.Prelude.{◌≡◌, ℕ, ◌+◌, ◌-◌, ◌≤◌, ◌<◌, T, length, get_or};
+ghost use Rattle.std.specs.Prelude.{ℕ, ◌-◌, ◌≤◌, ◌<◌, T, length, get_or};
 ghost use Rattle.polynomials.specs.Polynomials.{Members};
 ghost use Rattle.rules.specs.Views.{children_of};
-ghost use Rattle.splits.specs.Gates.{Balanced};
-ghost use Rattle.descent.specs.Descents.{at_children, AtGate};
+ghost use Rattle.descent.specs.Descents.{AtGate};
 
 use crate::rows::spread_out;
 use fields::Field;

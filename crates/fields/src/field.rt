@@ -1,5 +1,5 @@
 // A field by its operations and its laws: what splitting a challenge asks for.
-ghost use Rattle.std.specs.Prelude.{◌≡◌, ℕ, ◌≤◌, T, ◌≢◌, Decides};
+ghost use Rattle.std.specs.Prelude.{◌≡◌, ◌≤◌, T, ◌≢◌, Decides};
 ghost use Rattle.fields.specs.Fields.{FieldModel, FieldLaws, minus};
 ghost use Rattle.fields.specs.Sizes.{Small};
 

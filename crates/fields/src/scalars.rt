@@ -1,5 +1,5 @@
 // The scalars modulo q: their maker, and the field that they are.
-ghost use Rattle.std.specs.Prelude.{◌≡◌, ℕ, ◌*◌, ◌/◌, ◌%◌, ◌<◌, ◌≤◌, T, if◌then◌else◌, MatchResult};
+ghost use Rattle.std.specs.Prelude.{◌≡◌, ◌/◌, ◌%◌, ◌<◌, ◌≤◌, T, if◌then◌else◌, MatchResult};
 ghost use Rattle.refusals.specs.declared.Parameter.TheVariants.{Order};
 ghost use Rattle.refusals.specs.declared.Refusal.TheVariants.{OutOfRange, NotPrime};
 ghost use Rattle.fields.specs.Modular.{difference_mod, product_mod};

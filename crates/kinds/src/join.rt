@@ -1,5 +1,5 @@
 // Two sets of leaf kinds as one, told apart by kind number: the left's kinds first, the right's follow on.
-ghost use Rattle.std.specs.Prelude.{◌≡◌, ◌&&◌, IfOk, nat_lt};
+ghost use Rattle.std.specs.Prelude.{◌≡◌, ◌&&◌, IfOk};
 ghost use Rattle.refusals.specs.Checks.{told};
 ghost use Rattle.kinds.specs.Kinds.{images};
 ghost use Rattle.kinds.specs.Joins.{join as both, IsSide, fits, join_refusal};

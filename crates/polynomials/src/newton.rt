@@ -1,7 +1,7 @@
 // Polynomials in Newton's form: c0 + (x - a0)(c1 + (x - a1)(c2 + ..)), with the nodes a and the coefficients c.
 // kept: nodes and coefficients are two slices, not one type: coefficients are written where the values at the nodes stood, and that all are elements hangs on a field that no type of slices has
 ghost use Rattle.std.specs.Prelude.{◌≡◌, ℕ, ◌<◌, ◌≤◌, T, List, length, ◌≢◌, slice_index_or};
-ghost use Rattle.fields.specs.Fields.{FieldModel, minus};
+ghost use Rattle.fields.specs.Fields.{minus};
 ghost use Rattle.polynomials.specs.Polynomials.{Members, Apart, Passes, Vanishes, Polynomial, newton as form, weight as factors};
 
 use fields::Field;

@@ -10,6 +10,7 @@ pub(crate) const LINE_BYTES: usize = 18;
 
 pub(crate) const MOST_LINES: usize = 16;
 
+// kept: a kind by its number: which kinds there are is known to the set alone, a stranger's too
 #[derive(Clone, Copy, Default, PartialEq, Eq)]
 pub struct Line {
     pub number: u8,

@@ -38,6 +38,7 @@ impl<'a> Letters<'a> {
     }
 
     // The number that stands here in digits.
+    // kept: digit by digit: the library's `parse` takes a sign and leading zeros, and tells no place
     pub(crate) fn number(&mut self) -> Result<u8, Refusal>
         ensures same { self.new.text ≡ self.old.text }
         ensures numbered { MatchResult result (λ n. Numbered self.old.text.now self.old.at n self.new.at) (λ x. Unnumbered self.old.text.now self.old.at x) }

@@ -1,5 +1,5 @@
 // Reads a rule's text by recursive descent: an item calls the reader of a gate's items and back, the depth left falling.
-ghost use Rattle.std.specs.Prelude.{◌≡◌, ◌+◌, ◌<◌, ◌≤◌, [], length, MatchResult, Some, slice_get, slice_index};
+ghost use Rattle.std.specs.Prelude.{◌≡◌, ◌+◌, ◌<◌, [], MatchResult, Some, slice_get, slice_index};
 ghost use Rattle.rules.specs.ReaderSteps.{Room, ItemRead, Items, ItemsRefused, Begins};
 ghost use Rattle.rules.specs.Texts.{rows_in, Read, Faulty};
 ghost use Rattle.rules.specs.Views.{children_of};
@@ -17,6 +17,7 @@ const MOST_KEYS: usize = 16;
 pub(crate) const MOST_DEPTH: u8 = 8;
 
 // A rule's text as it is read, and the entries read so far.
+// kept: `Room` at each method: it speaks of the depth left, which is no field
 #[derive(Drop)]
 pub struct Reader<'a> {
     pub(crate) letters: Letters<'a>,

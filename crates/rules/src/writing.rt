@@ -15,6 +15,7 @@ use refusals::Refusal;
 // A text as it is written.
 pub type Text = Row<u8, MOST_BYTES>;
 
+// kept: digits by hand: the library writes numbers to formatters, which may fail
 #[tactic(auto, unfolding(crate::specs::Grammar::decimal))]
 fn spell_number(n: u8, text: &mut Text)
     requires { length (items text.old) + length (decimal n) ≤ 240 }

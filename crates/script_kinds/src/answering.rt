@@ -39,6 +39,7 @@ pub fn ask<S: LeafKinds>(set: &S, command: KindCommand) -> KindReply
 {
     match command {
         KindCommand::Set => {
+            // kept: six calls; `array::from_fn` would have to make a kind's number of each index, one more and in another type
             let widths = [
                 set.width(1),
                 set.width(2),

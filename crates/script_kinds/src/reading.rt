@@ -74,6 +74,7 @@ fn read_question(verb: Verb, words: &mut Words) -> Result<Question, Fault>
             let [a, b, c, d, exponent] = words.numbers::<5>()?;
             Ok(Question::Power(Image((a, b), (c, d)), exponent))
         }
+        // kept: a set is read before; an enum of the other five verbs would be the same list again
         Verb::Neutral | Verb::Set => {
             words.end()?;
             Ok(Question::Neutral)

@@ -12,6 +12,7 @@ pub enum RuleReply {
     // the rule that was read
     Tree(Table),
     // why a text is no rule, and the text where it is shown
+    // kept: a reply and no error, since it shows the text that it speaks of
     Faulty(Refusal, Option<Text>),
     // the text of the rule
     Text(Text),

@@ -2,7 +2,7 @@
 ghost use Rattle.std.specs.Prelude.{◌≡◌, ℕ, ◌-◌, ◌<◌, ◌≤◌, false, T, List, length, get_or, if◌then◌else◌, slice_index_or};
 ghost use Rattle.polynomials.specs.Polynomials.{Members, newton};
 ghost use Rattle.splits.specs.Gates.{Balanced, Agree, AgreeFirst};
-ghost use Rattle.splits.specs.Marks.{missing, points_from};
+ghost use Rattle.splits.specs.Marks.{missing};
 
 use crate::rows::{child_points, first, pick};
 use fields::Field;

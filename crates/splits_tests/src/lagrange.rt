@@ -1,5 +1,5 @@
 // Lagrange's formula in plain numbers, with nothing taken from what it is compared with. The sums and products stay below 2 ^ 64 for moduli below 2 ^ 31.
-ghost use Rattle.std.specs.Prelude.{◌<◌, length};
+ghost use Rattle.std.specs.Prelude.{◌<◌};
 
 // a to the q - 2, the inverse of a where q is a prime
 fn inverse(q: u64, a: u64) -> u64

@@ -1,5 +1,5 @@
 // What a transcript spells by W words each: a challenge by one, a response by two, a commitment by four.
-ghost use Rattle.std.specs.Prelude.{◌≡◌, ℕ, ◌≤◌, List, length};
+ghost use Rattle.std.specs.Prelude.{◌≡◌, ℕ, List, length};
 ghost use Rattle.transcripts.specs.Spellings.{scalar_words, scalar_of, pair_words, pair_of, four_words, image_of};
 
 use fields::Scalar;

@@ -35,6 +35,7 @@ impl<'a> Words<'a> {
     }
 
     // The next word; none past the last.
+    // kept: two clauses on what is left, here and at each reader below: callers cite the one or the other
     pub fn word(&mut self) -> Option<&'a [u8]>
         ensures value { option_map (λ w. w.now) result ≡ word_at self.old.rest.now }
         ensures after { self.new.rest.now ≡ after_word self.old.rest.now }
