@@ -7,5 +7,4 @@ ghost use Rattle.figures.specs.Figures.{FiguresStand};
 // Every figure stands.
 pub fn figures_stand()
     ensures { FiguresStand }
-{
-}
+{}

@@ -1,6 +1,5 @@
 -- A word that was read byte by byte.
 use Rattle.std.proofs.Common.{◌≡◌, ℕ, List, length, sym, ap}
-
 use Rattle.std.proofs.lemmas.Slice.Eq.{HasBytesAt, text_from_reads}
 
 -- what f makes of a word is what it makes of the name that was read
