@@ -4,6 +4,7 @@ ghost use Rattle.std.specs.Prelude.{⊤, ◌≡◌, ◌+◌, ◌<◌, ◌≤◌,
 use std::alloc::AllocError;
 use std::ops::DerefSlice;
 
+// kept: an array with its length: no call below the programs may allocate, and this is the one place where such a pair stands
 #[derive(Copy)]
 pub struct Row<T: Copy, const N: usize> {
     slots: [T; N],
@@ -93,7 +94,7 @@ impl<T: Copy, const N: usize> Row<T, N> {
     }
 }
 
-// A derive would ask that an item's clone does not fail; the copy of a row does not ask.
+// kept: a clone by hand: a derive is refused over a ghost field where the type of an item is a parameter
 impl<T: Copy, const N: usize> Clone for Row<T, N> {
     ghost is_clone = { λ a b. b ≡ a };
 

@@ -1,4 +1,5 @@
 // Whether the equation of each leaf holds: image(response) = commitment · statement^challenge.
+// kept: casts by `as`: the check proves that nothing is lost, and a `TryFrom` would have a refusal that never comes
 ghost use Rattle.std.specs.Prelude.{◌≡◌, ℕ, T};
 ghost use Rattle.refusals.specs.Checks.{told};
 ghost use Rattle.kinds.specs.declared.image.Image.{Image as FourWords};

@@ -1,4 +1,5 @@
 // Whether the words of a transcript fit: the challenges, then the commitments, then the responses.
+// kept: casts by `as`: the check proves that nothing is lost, and a `TryFrom` would have a refusal that never comes
 ghost use Rattle.std.specs.Prelude.{◌≡◌, ◌≤◌, length, if◌then◌else◌};
 ghost use Rattle.refusals.specs.Checks.{told};
 ghost use Rattle.releases.specs.Entries.{leaves as leaf_entries};

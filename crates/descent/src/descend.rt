@@ -1,4 +1,5 @@
 // Splitting down a whole rule, entry by entry.
+// kept: casts by `as`: the check proves that nothing is lost, and a `TryFrom` would have a refusal that never comes
 ghost use Rattle.std.specs.Prelude.{◌≡◌, ℕ, ◌≤◌, ◌<◌, T, length, get_or};
 ghost use Rattle.polynomials.specs.Polynomials.{Members};
 ghost use Rattle.rules.specs.Texts.{rows_in};

@@ -1,4 +1,5 @@
 // A few calls for programs in other languages, on numbers and byte slices: what the library is measured by.
+// kept: casts by `as`: the check proves that nothing is lost, and a `TryFrom` would have a refusal that never comes
 #![tactic(auto)]
 
 ghost use Rattle.std.specs.Prelude.{◌≡◌, List, length};
@@ -36,7 +37,7 @@ pub extern "C" fn lemonbilge_power_circle(p: u32, a: u32, b: u32, exponent: u32)
         return 0;
     }
     let (first, second) = power(&circle, (), &(Residue::new(a), Residue::new(b)), exponent);
-    first.value() as u64 * 4294967296 + second.value() as u64
+    u64::from(first.value()) * 4294967296 + u64::from(second.value())
 }
 
 // How many entries the rule of a text has; 0 where the text is refused.

@@ -19,6 +19,7 @@ pub trait Field {
         requires { j ≤ 8 }
         ensures { result ≡ (model self.now).point j };
 
+    // kept: what the operands are, at each operation: an element is known by the field that it is asked of, and not by its type
     fn sum(&self, a: Self::Element, b: Self::Element) -> Self::Element
         requires { (T ((model self.now).member a)) × (T ((model self.now).member b)) }
         ensures { result ≡ (model self.now).plus a b };

@@ -35,7 +35,7 @@ fn two_products(p: u32, a: u32, b: u32, c: u32, d: u32) -> u32
     requires { ((0 < p) × (p ≤ 2147483647)) × ((a ≤ p) × (b ≤ p) × (c ≤ p) × (d ≤ p)) }
     ensures { result ≡ (a * b + c * d) % p }
 {
-    ((a as u64 * b as u64 + c as u64 * d as u64) % p as u64) as u32
+    ((u64::from(a) * u64::from(b) + u64::from(c) * u64::from(d)) % u64::from(p)) as u32
 }
 
 impl Monoid for Circle {

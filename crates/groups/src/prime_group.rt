@@ -72,7 +72,7 @@ impl<E: Modular> PrimeGroup<E> {
     }
 }
 
-// A derive would ask that the clone of a base does not fail; the copy of a group does not ask.
+// kept: a clone by hand: a derive is refused over a ghost field where the type of an element is a parameter
 impl<E: Modular> Clone for PrimeGroup<E> {
     ghost is_clone = { λ a b. b ≡ a };
 

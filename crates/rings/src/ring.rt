@@ -1,4 +1,5 @@
 // Reading a ring over any set of leaf kinds.
+// kept: casts by `as`: the check proves that nothing is lost, and a `TryFrom` would have a refusal that never comes
 ghost use Rattle.std.specs.Prelude.{◌≡◌, IfOk};
 ghost use Rattle.refusals.specs.Checks.{told};
 ghost use Rattle.rings.specs.Rings.{ring_lines, line_refusal, ring_refusal, lines_in};

@@ -31,6 +31,7 @@ pub enum Reply {
 }
 
 // What a command is about, by its first word.
+// kept: an enum, and no functions that are handed about: contracts say what each word is read as
 #[derive(Clone, Copy, PartialEq, Eq, Debug)]
 pub enum Topic {
     Group(Verb),

@@ -33,6 +33,7 @@ pub enum GroupReply {
 }
 
 // The first word of a command on groups.
+// kept: an enum, and no functions that are handed about: contracts say what each word is read as
 #[derive(Clone, Copy, PartialEq, Eq, Debug)]
 pub enum Verb {
     Make,

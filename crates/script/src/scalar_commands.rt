@@ -7,6 +7,7 @@ use script_gates::scalar;
 use std::fmt;
 use words::{Expected, Fault, Unanswered, Words};
 
+// kept: an enum, and no functions that are handed about: contracts say what each word is read as
 #[derive(Clone, Copy, PartialEq, Eq, Debug)]
 pub enum Operation {
     Add,

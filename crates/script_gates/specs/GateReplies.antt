@@ -75,6 +75,7 @@ abbrev pub order_of : GateCommand → ℕ
 order_of (Fill g) = g.q
 order_of (Check k g) = g.q
 
+-- kept: one line each here, for splits and for scalars, at three types of results
 abbrev pub order_refusal : ℕ → Result GateReply Unanswered
 order_refusal q = Err (Refused (cond (in_range q) NotPrime (OutOfRange Order)))
 

@@ -1,4 +1,5 @@
 // What a command on gates is answered.
+// kept: casts by `as`: the check proves that nothing is lost, and a `TryFrom` would have a refusal that never comes
 ghost use Rattle.std.specs.Prelude.{◌≡◌, ◌<◌, ◌≤◌, IfOk};
 ghost use Rattle.fields.specs.Scalars.{scalar};
 ghost use Rattle.bounded.specs.Rows.{items};

@@ -29,6 +29,7 @@ pub enum KindCommand {
 }
 
 // The second word of a command on leaf kinds.
+// kept: an enum, and no functions that are handed about: contracts say what each word is read as
 #[derive(Clone, Copy, PartialEq, Eq, Debug)]
 pub enum Verb {
     Set,

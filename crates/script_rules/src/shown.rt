@@ -1,4 +1,5 @@
 // How the replies to commands on rules are shown.
+// kept: casts by `as`: the check proves that nothing is lost, and a `TryFrom` would have a refusal that never comes
 use crate::answering::RuleReply;
 use rules::{Entry, Table, spelled};
 use std::fmt;
