@@ -1,5 +1,5 @@
 // Whether the equation of each leaf holds: image(response) = commitment · statement^challenge.
-// kept: casts by `as`: the check proves that nothing is lost, and a `TryFrom` would have a refusal that never comes
+// kept: casts by `as`: nothing is lost, as the check proves; behind a `From` a number is a new one to the proof, and a `TryFrom` has a refusal that never comes
 ghost use Rattle.std.specs.Prelude.{◌≡◌, ℕ, T};
 ghost use Rattle.refusals.specs.Checks.{told};
 ghost use Rattle.kinds.specs.declared.image.Image.{Image as FourWords};
@@ -43,6 +43,7 @@ impl<S: LeafKinds> Checker<'_, S> {
         ensures { EquationsChecked (S.LeafKinds.meaning self.now.set.now) (rule_in self.now.rule.now) (transcript_in transcript.now) Clear (told result) }
     {
         let leaves = self.rule.leaves();
+        // kept: by the leaf's number, as where commitments are checked: the proof over a zip did not close
         for (number, leaf) in leaves.iter().enumerate() {
             if !equation_holds(
                 self.set,

@@ -1,5 +1,5 @@
 // Whether the challenges of a rule balance its gates.
-// kept: casts by `as`: the check proves that nothing is lost, and a `TryFrom` would have a refusal that never comes
+// kept: casts by `as`: nothing is lost, as the check proves; behind a `From` a number is a new one to the proof, and a `TryFrom` has a refusal that never comes
 ghost use Rattle.std.specs.Prelude.{◌≡◌, ℕ, ◌<◌, ◌≤◌, T, map, length, get_or, nat_lt, slice_index, slice_index_or};
 ghost use Rattle.refusals.specs.Checks.{told};
 ghost use Rattle.fields.specs.Scalars.{scalar, scalars_model};

@@ -1,5 +1,5 @@
 // Whether the words of a transcript fit: the challenges, then the commitments, then the responses.
-// kept: casts by `as`: the check proves that nothing is lost, and a `TryFrom` would have a refusal that never comes
+// kept: casts by `as`: nothing is lost, as the check proves; behind a `From` a number is a new one to the proof, and a `TryFrom` has a refusal that never comes
 ghost use Rattle.std.specs.Prelude.{◌≡◌, ◌≤◌, length, if◌then◌else◌};
 ghost use Rattle.refusals.specs.Checks.{told};
 ghost use Rattle.releases.specs.Entries.{leaves as leaf_entries};
@@ -61,6 +61,7 @@ fn check_responses<S: LeafKinds>(set: &S, rule: &Rule, responses: &[Key]) -> Res
 {
     let first = rule.len() + 4 * rule.leaf_count();
     let leaves = rule.leaves();
+    // kept: by the leaf's number, as above
     for (number, leaf) in leaves.iter().enumerate() {
         let response = responses[number];
         if !is_key(set, leaf.kind, response) {
@@ -73,7 +74,7 @@ fn check_responses<S: LeafKinds>(set: &S, rule: &Rule, responses: &[Key]) -> Res
 
 // Refuses the first word that does not fit: a challenge is below q, four words of a commitment are an image of its leaf's
 // kind (told at their first), two words of a response are a key of it.
-// kept: no method of `Checker`, as it asks nothing of the rule and the set.
+// kept: no method of `Checker`, as it asks nothing that ties the set to the rule
 pub fn check_words<S: LeafKinds>(
     set: &S,
     rule: &Rule,

@@ -1,5 +1,5 @@
 // Splitting down a whole rule, entry by entry.
-// kept: casts by `as`: the check proves that nothing is lost, and a `TryFrom` would have a refusal that never comes
+// kept: casts by `as`: nothing is lost, as the check proves; behind a `From` a number is a new one to the proof, and a `TryFrom` has a refusal that never comes
 ghost use Rattle.std.specs.Prelude.{◌≡◌, ℕ, ◌≤◌, ◌<◌, T, length, get_or};
 ghost use Rattle.polynomials.specs.Polynomials.{Members};
 ghost use Rattle.rules.specs.Texts.{rows_in};

@@ -1,5 +1,5 @@
 // A few calls for programs in other languages, on numbers and byte slices: what the library is measured by.
-// kept: casts by `as`: the check proves that nothing is lost, and a `TryFrom` would have a refusal that never comes
+// kept: casts by `as`: nothing is lost, as the check proves; behind a `From` a number is a new one to the proof, and a `TryFrom` has a refusal that never comes
 #![tactic(auto)]
 
 ghost use Rattle.std.specs.Prelude.{◌≡◌, List, length};

@@ -22,7 +22,7 @@ impl Circle {
         ensures { MatchOption result ((1 < p → p ≤ 2147483647 → ⊥)) (λ s. s.p ≡ p) }
     {
         // kept: `then_some` would make the value before the test that it stands by, and the closure of `then` needs a `requires` of its own
-        if p > 1 && p <= 2147483647 {
+        if (2..=2147483647).contains(&p) {
             Some(Circle { p })
         } else {
             None
@@ -31,6 +31,7 @@ impl Circle {
 }
 
 // The sum of two products, modulo p.
+// kept: `as u32` at what is below p: a `TryFrom` has a refusal that never comes
 fn two_products(p: u32, a: u32, b: u32, c: u32, d: u32) -> u32
     requires { ((0 < p) × (p ≤ 2147483647)) × ((a ≤ p) × (b ≤ p) × (c ≤ p) × (d ≤ p)) }
     ensures { result ≡ (a * b + c * d) % p }

@@ -15,6 +15,7 @@ fn input(rt: &HostRuntime) -> anyhow::Result<Vec<u8>> {
         rt.stdin().read_to_end(&mut text)?;
         return Ok(text);
     };
+    // kept: no `map_err`, since the message is made by a call that may fail itself
     match fs::read(rt, path.as_str()) {
         Ok(text) => Ok(text),
         Err(why) => Err(anyhow!(format!(in rt.alloc(); "cannot read {path}: {why}")?)),

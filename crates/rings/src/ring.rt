@@ -1,5 +1,5 @@
 // Reading a ring over any set of leaf kinds.
-// kept: casts by `as`: the check proves that nothing is lost, and a `TryFrom` would have a refusal that never comes
+// kept: casts by `as`: nothing is lost, as the check proves; behind a `From` a number is a new one to the proof, and a `TryFrom` has a refusal that never comes
 ghost use Rattle.std.specs.Prelude.{◌≡◌, IfOk};
 ghost use Rattle.refusals.specs.Checks.{told};
 ghost use Rattle.rings.specs.Rings.{ring_lines, line_refusal, ring_refusal, lines_in};

@@ -7,13 +7,13 @@ ghost use Rattle.fields.specs.Scalars.{scalar};
 
 use bounded::Row;
 use fields::Scalar;
-use kinds::Image;
+use kinds::{Image, Key};
 
 // Images of the leaves of a rule, at most 16.
 pub type ImageRow = Row<Image, 16>;
 
 // Keys held for the leaves of a rule, at most 16, each present or absent.
-pub type KeyRow = Row<Option<(Scalar, Scalar)>, 16>;
+pub type KeyRow = Row<Option<Key>, 16>;
 
 // A tape, at most 248 scalars: eight for each of 31 entries.
 pub type TapeRow = Row<Scalar, 248>;

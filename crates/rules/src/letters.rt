@@ -1,5 +1,5 @@
 // The smallest parts of a rule's text: letters, numbers, and the heads of gates.
-// kept: casts by `as`: the check proves that nothing is lost, and a `TryFrom` would have a refusal that never comes
+// kept: casts by `as`: nothing is lost, as the check proves; behind a `From` a number is a new one to the proof, and a `TryFrom` has a refusal that never comes
 ghost use Rattle.std.specs.Prelude.{◌≡◌, ◌+◌, ◌≤◌, ◌&&◌, nat_le, false, length, MatchOption, MatchResult, slice_get, slice_index};
 ghost use Rattle.rules.specs.ReaderSteps.{Numbered, Unnumbered, Passed, NotPassed, Headed, Unheaded, Begins};
 

@@ -1,5 +1,5 @@
 // Reads a rule's text by recursive descent: an item calls the reader of a gate's items and back, the depth left falling.
-// kept: casts by `as`: the check proves that nothing is lost, and a `TryFrom` would have a refusal that never comes
+// kept: casts by `as`: nothing is lost, as the check proves; behind a `From` a number is a new one to the proof, and a `TryFrom` has a refusal that never comes
 ghost use Rattle.std.specs.Prelude.{◌≡◌, ◌+◌, ◌<◌, [], MatchResult, Some, slice_get, slice_index};
 ghost use Rattle.rules.specs.ReaderSteps.{Room, ItemRead, Items, ItemsRefused, Begins};
 ghost use Rattle.rules.specs.Texts.{rows_in, Read, Faulty};

@@ -1,5 +1,5 @@
 // Writes the text of a rule from its table.
-// kept: casts by `as`: the check proves that nothing is lost, and a `TryFrom` would have a refusal that never comes
+// kept: casts by `as`: nothing is lost, as the check proves; behind a `From` a number is a new one to the proof, and a `TryFrom` has a refusal that never comes
 ghost use Rattle.std.specs.Prelude.{◌≡◌, ◌+◌, ◌<◌, ◌≤◌, [], ◌∷◌, ◌++◌, length, map, MatchResult};
 ghost use Rattle.bounded.specs.Rows.{items};
 ghost use Rattle.rules.specs.Grammar.{decimal, opening};

@@ -41,6 +41,7 @@ command_of_operation (Ok op) place bs = built (command_with op) (numbers_at 3 pl
 abbrev pub scalar_command : ℕ → List ℕ → Result ScalarCommand Fault
 scalar_command place bs = command_of_operation (operation_at place bs) (following place) (after_word bs)
 
+-- kept: one line each here, for gates and for splits, at three types of results
 abbrev pub order_refusal : ℕ → Result ScalarReply Unanswered
 order_refusal q = Err (Refused (cond (in_range q) NotPrime (OutOfRange Order)))
 

@@ -29,6 +29,7 @@ abbrev pub Splits : ℕ → List Row → ℕ → List ℕ → Challenges → Typ
 Splits q es c ns x = Descended q es (scalar c) ns (items x.0)
 
 pub record SplitTo (q : ℕ) (es : List Row) (c : ℕ) (ns : List ℕ) (r : Result Challenges Unanswered) : Type 0 where
+  -- kept: the refusal of an order, one line here, for gates and for scalars
   pub refused : (T (in_range q) → Prime q → ⊥) → r ≡ Err (Refused (cond (in_range q) NotPrime (OutOfRange Order)))
   pub answered : T (in_range q) → Prime q → Unrefused (Splits q es c ns) r
 

@@ -70,6 +70,7 @@ pub fn answer_split(table: &Table, line: &[u8]) -> Result<Challenges, Unanswered
     let q = words.number()?;
     let challenge = words.number()?;
     let count = share_count(table);
+    // kept: no rule takes more than 15, but that count is not proved
     if count > 31 {
         return Err(Unanswered::Fault(Fault {
             place: 5,

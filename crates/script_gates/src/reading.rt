@@ -6,7 +6,7 @@ use bounded::Row;
 use words::{Expected, Fault, Words, number};
 
 // The second word of a command on gates.
-// kept: an enum, and no functions that are handed about: contracts say what each word is read as
+// kept: an enum, and no functions that are handed about: it is the second word of a line, read in one place
 #[derive(Clone, Copy, PartialEq, Eq, Debug)]
 pub enum Verb {
     Split,

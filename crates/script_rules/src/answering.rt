@@ -24,6 +24,7 @@ pub enum RuleReply {
 fn shown(text: &[u8]) -> Option<Text>
     ensures { ShownAs text.now result }
 {
+    // kept: the closure of `then` would need a `requires` of its own
     if (1..=240).contains(&text.len()) {
         Some(Row::of(0, text))
     } else {

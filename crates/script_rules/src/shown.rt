@@ -1,5 +1,5 @@
-// How the replies to commands on rules are shown.
-// kept: casts by `as`: the check proves that nothing is lost, and a `TryFrom` would have a refusal that never comes
+// How the replies to commands on rules are shown. Nothing is proved of it, so it asks whether a place is there.
+// kept: casts by `as`: nothing is lost, as the check proves; behind a `From` a number is a new one to the proof, and a `TryFrom` has a refusal that never comes
 use crate::answering::RuleReply;
 use rules::{Entry, Table, spelled};
 use std::fmt;

@@ -10,6 +10,7 @@ use crate::node::{Leaf, Node};
 use bounded::Row;
 use kinds::Image;
 
+// kept: leaves are counted as they come, since a count at each call would go through the entries again
 #[derive(Clone, Copy)]
 pub struct Rule {
     pub(crate) nodes: Row<Node, 31>,

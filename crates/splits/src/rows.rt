@@ -1,5 +1,5 @@
 // Rows of at most eight entries, one for each child of a gate.
-// kept: casts by `as`: the check proves that nothing is lost, and a `TryFrom` would have a refusal that never comes
+// kept: casts by `as`: nothing is lost, as the check proves; behind a `From` a number is a new one to the proof, and a `TryFrom` has a refusal that never comes
 ghost use Rattle.std.specs.Prelude.{◌≡◌, ◌<◌, ◌≤◌, ◌∷◌, length};
 ghost use Rattle.bounded.specs.Rows.{items};
 ghost use Rattle.splits.specs.Marks.{marked, First, points_from};

@@ -1,5 +1,5 @@
 // Gates over the scalars, made from plain numbers.
-// kept: casts by `as`: the check proves that nothing is lost, and a `TryFrom` would have a refusal that never comes
+// kept: casts by `as`: nothing is lost, as the check proves; behind a `From` a number is a new one to the proof, and a `TryFrom` has a refusal that never comes
 ghost use Rattle.std.specs.Prelude.{◌≡◌, ◌<◌, ◌≤◌, T, length, nat_lt};
 ghost use Rattle.fields.specs.Scalars.{scalars_model};
 ghost use Rattle.polynomials.specs.Polynomials.{Members};

@@ -1,5 +1,5 @@
 // Lagrange's formula in plain numbers, with nothing taken from what it is compared with. The sums and products stay below 2 ^ 64 for moduli below 2 ^ 31.
-// kept: casts by `as`: the check proves that nothing is lost, and a `TryFrom` would have a refusal that never comes
+// kept: casts by `as`: nothing is lost, as the check proves; behind a `From` a number is a new one to the proof, and a `TryFrom` has a refusal that never comes
 ghost use Rattle.std.specs.Prelude.{◌<◌};
 
 // a to the q - 2, the inverse of a where q is a prime

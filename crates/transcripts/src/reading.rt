@@ -20,6 +20,7 @@ fn read<const W: usize, T: Spelt<W>>(words: &[u32], items: &mut [T])
 }
 
 // Reads the words into challenges, commitments and responses, as many as there is room for.
+// kept: three lists: as one value they would be a second struct, of lists that are written, for this call alone
 pub fn read_words(
     words: &[u32],
     challenges: &mut [Scalar],

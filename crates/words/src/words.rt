@@ -45,7 +45,7 @@ impl<'a> Words<'a> {
         let (word, rest) = split(Class::Word, rest);
         self.rest = rest;
         self.place = self.place.saturating_add(1);
-        if word.is_empty() { None } else { Some(word) }
+        (!word.is_empty()).then_some(word)
     }
 
     // The next word as what a function reads it as.
