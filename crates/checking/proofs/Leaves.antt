@@ -6,41 +6,15 @@ use Rattle.kinds.specs.declared.image.Image.{Image}
 use Rattle.releases.specs.Entries.{Entry, leaf, gate, LeafAt, number}
 use Rattle.releases.specs.Calls.{AtLeaf}
 use Rattle.releases.specs.Checks.{Clear, Each}
-use Rattle.releases.proofs.Places.{none_some, some_inj, inside}
+use Rattle.releases.proofs.Places.{inside}
 use Rattle.releases.proofs.Laid.{leaf_before, number_small}
 use Rattle.settings.specs.declared.node.Leaf.{Leaf}
 use Rattle.settings.specs.Leaves.{leaves_from, leaves_of}
-use Rattle.settings.proofs.Leaves.{length-leaves_from}
-
-abbrev leaf_at : ℕ → ℕ → Image → Leaf
-leaf_at i kind s = record { entry = i; kind = kind; statement = s }
+use Rattle.settings.proofs.Leaves.{length-leaves_from, leaf_at, leaf_listed}
 
 -- what stands past the last leaf
 abbrev pub blank : Leaf
 blank = leaf_at 0 0 zeros
-
-abbrev at_of : Leaf → ℕ → Entry → Leaf
-at_of x i (leaf kind s) = leaf_at i kind s
-at_of x i (gate k cs) = x
-
-from_is : (b : ℕ) (rule : List Entry) (i kind : ℕ) (s : Image) (d : Leaf) → LeafAt rule i kind s → get_or (leaves_from b rule) (number rule i) d ≡ leaf_at (b + i) kind s
-from_is b [] i kind s d h = none_some (leaf kind s) h
-from_is b (leaf k t ∷ es) zero kind s d h =
-    let e : b ≡ b + 0 = omega arith in
-    ap (at_of d b) (some_inj (leaf k t) (leaf kind s) h) ∙ ap (λ n. leaf_at n kind s) e
-from_is b (leaf k t ∷ es) (suc i) kind s d h =
-    let n : 1 + number es i ≡ suc (number es i) = omega arith in
-    let e : b + 1 + i ≡ b + suc i = omega arith in
-    ap (λ n. get_or (leaf_at b k t ∷ leaves_from (b + 1) es) n d) n ∙ from_is (b + 1) es i kind s d h ∙ ap (λ n. leaf_at n kind s) e
-from_is b (gate k cs ∷ es) zero kind s d h = absurd (let z : gate k cs ≡ leaf kind s = some_inj (gate k cs) (leaf kind s) h in cc)
-from_is b (gate k cs ∷ es) (suc i) kind s d h =
-    let n : 0 + number es i ≡ number es i = omega arith in
-    let e : b + 1 + i ≡ b + suc i = omega arith in
-    ap (λ n. get_or (leaves_from (b + 1) es) n d) n ∙ from_is (b + 1) es i kind s d h ∙ ap (λ n. leaf_at n kind s) e
-
--- a leaf is listed at its number
-pub leaf_listed : (rule : List Entry) (i kind : ℕ) (s : Image) (d : Leaf) → LeafAt rule i kind s → get_or (leaves_of rule) (number rule i) d ≡ leaf_at i kind s
-leaf_listed rule i kind s d h = let e : 0 + i ≡ i = omega arith in from_is 0 rule i kind s d h ∙ ap (λ n. leaf_at n kind s) e
 
 record Stands (b : ℕ) (rule : List Entry) (j : ℕ) (x : Leaf) : Type 0 where
   at : ℕ

@@ -7,6 +7,7 @@ use Rattle.refusals.specs.declared.Refusal.{Refusal}
 use Rattle.kinds.specs.declared.image.Image.{Image}
 use Rattle.bounded.specs.declared.row.Row.{Row as Bounded}
 use Rattle.rules.specs.Views.{children_of}
+use Rattle.releases.proofs.Decided.{LeafCase, GateCase}
 use Rattle.releases.specs.Entries.{Entry, leaf, gate, LeafAt, GateAt, to_leaf, number}
 use Rattle.releases.specs.Calls.{AtLeaf, AtGate}
 use Rattle.releases.specs.Checks.{Clear, Each}
@@ -41,16 +42,6 @@ leaf_entry rule i kind s n h is = h ∙ ap (λ x. some (entry_of x)) is
 pub gate_entry : (rule : List Entry) (i k : ℕ) (cs : Bounded ℕ 8) (n : Node) → get_elem? rule i ≡ some (entry_of n) → n ≡ Gate k cs → GateAt rule i k (children_of cs)
 unfolding entry_of
 gate_entry rule i k cs n h is = h ∙ ap (λ x. some (entry_of x)) is
-
-abbrev LeafCase : (ℕ → Image → Type 0) → Found Entry → Type 0
-LeafCase P none = Unit {0}
-LeafCase P (some (leaf kind s)) = P kind s
-LeafCase P (some (gate k cs)) = Unit {0}
-
-abbrev GateCase : (ℕ → List ℕ → Type 0) → Found Entry → Type 0
-GateCase P none = Unit {0}
-GateCase P (some (leaf kind s)) = Unit {0}
-GateCase P (some (gate k cs)) = P k cs
 
 module _ (rule : List Entry) (P : ℕ → ℕ → Image → Type 0) (i : ℕ) where
   -- nothing is asked of a gate

@@ -74,12 +74,12 @@ held? P None d = yes tt
 held? P (Some x) d = d x
 
 -- what is asked at a leaf and at a gate, as a property of what stands at a position
-abbrev LeafCase : (ℕ → Image → Type 0) → Found Entry → Type 0
+abbrev pub LeafCase : (ℕ → Image → Type 0) → Found Entry → Type 0
 LeafCase P none = Unit {0}
 LeafCase P (some (leaf kind s)) = P kind s
 LeafCase P (some (gate k cs)) = Unit {0}
 
-abbrev GateCase : (ℕ → List ℕ → Type 0) → Found Entry → Type 0
+abbrev pub GateCase : (ℕ → List ℕ → Type 0) → Found Entry → Type 0
 GateCase P none = Unit {0}
 GateCase P (some (leaf kind s)) = Unit {0}
 GateCase P (some (gate k cs)) = P k cs

@@ -1,9 +1,9 @@
 // A rule with its ring: its entries, and how many of them are leaves.
-ghost use Rattle.std.specs.Prelude.{◌≡◌, ◌≤◌, map, length, MatchOption};
+ghost use Rattle.std.specs.Prelude.{◌≡◌, ℕ, ◌≤◌, map, length, get_or, MatchOption};
 ghost use Rattle.std.proofs.Math.Option.{some};
 ghost use Rattle.std.proofs.Math.ListN.{get_elem?};
 ghost use Rattle.bounded.specs.Rows.{items};
-ghost use Rattle.releases.specs.Entries.{leaves as leaf_entries};
+ghost use Rattle.releases.specs.Entries.{leaves as leaf_entries, LeafAt, number};
 ghost use Rattle.settings.specs.Nodes.{entry_of};
 
 use crate::node::{Leaf, Node};
@@ -48,10 +48,11 @@ impl Rule {
         &self.nodes
     }
 
-    // The leaves, in the order of the table.
+    // The leaves, in the order of the table: each stands at its number.
     pub fn leaves(&self) -> Row<Leaf, 16>
         ensures are { items result ≡ leaves_of (rule_in self.now) }
         ensures count { length (items result) ≡ leaf_entries (rule_in self.now) }
+        ensures stand { (i kind : ℕ) (s : Image) (d : Leaf) → LeafAt (rule_in self.now) i kind s → get_or (items result) (number (rule_in self.now) i) d ≡ record { entry = i; kind = kind; statement = s } }
     {
         let mut leaves = Row::blank(Leaf {
             entry: 0,

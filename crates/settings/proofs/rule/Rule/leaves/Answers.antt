@@ -1,12 +1,12 @@
-use Rattle.std.proofs.Common.{◌≡◌, ◌+◌, List, [], ◌∷◌, ◌++◌, length, drop, sym, ap, ◌∙◌, subst, arith, append_assoc, length-append}
+use Rattle.std.proofs.Common.{◌≡◌, ◌+◌, List, [], ◌∷◌, ◌++◌, length, drop, sym, ap, ◌∙◌, subst, arith, append_assoc, append-nil, length-append, get_or}
 use Rattle.std.proofs.lemmas.List.{length-map, drop_all}
 use Rattle.bounded.specs.Rows.{items}
-use Rattle.releases.specs.Entries.{Entry}
+use Rattle.releases.specs.Entries.{Entry, number}
 use Rattle.settings.specs.declared.node.Leaf.{Leaf}
 use Rattle.settings.specs.Nodes.{entry_of}
 use Rattle.settings.specs.Rules.{rule_in}
 use Rattle.settings.specs.Leaves.{leaves_from}
-use Rattle.settings.proofs.Leaves.{length-leaves_from, next_leaf, next_gate}
+use Rattle.settings.proofs.Leaves.{length-leaves_from, next_leaf, next_gate, leaf_listed}
 use Rattle.settings.proofs.rule.Rule.leaves.Goals as goal
 use Rattle.settings.proofs.rule.Rule.leaves.Goals.{in-Leaf, in_default}
 
@@ -55,3 +55,13 @@ returns-clause-count c =
     let none = ap (λ r. length (leaves_from i r)) (drop_all i rule (omega arith)) in
     let parts = length-append (items c.loop-entry.leaves) (leaves_from i (drop i rule)) in
     omega arith
+
+pub returns-clause-stand : goal.returns-clause-stand
+returns-clause-stand c j kind s d h =
+    let rule = rule_in c.args.self.now in
+    let i = c.loop-entry.entry in
+    let same = ap length c.nodes-node-items.ensures.are in
+    let past = length-map c.nodes-node-items.result.now entry_of in
+    let none = ap (leaves_from i) (drop_all i rule (omega arith)) in
+    let are = sym (append-nil (items c.loop-entry.leaves)) ∙ ap (λ xs. items c.loop-entry.leaves ++ xs) (sym none) ∙ c.loop-entry.invariant in
+    ap (λ xs. get_or xs (number rule j) d) are ∙ leaf_listed rule j kind s d h
