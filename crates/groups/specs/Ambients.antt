@@ -1,6 +1,8 @@
 -- What a group of prime order is cut from, as one value, and the group.
 --   AmbientModel E           for each modulus p a product on some of the values of E, which orders fit p, which elements have
 --                            a neutral q-th power, which of them is neutral, and the two words of an element
+--   Torsion m q element      the elements are the members whose q-th power is neutral
+--   elements m element       the elements under the product
 --   AmbientLaws a            the laws
 --   group_elements a q p     the elements modulo p whose q-th power is neutral, under the product
 --   base a q p x             x is such an element, and not the neutral one
@@ -11,10 +13,9 @@ use Rattle.refusals.specs.declared.Refusal.{Refusal}
 use Rattle.refusals.specs.declared.Refusal.TheVariants.{NoSuchGroup, UnfitBase}
 use Rattle.refusals.specs.declared.Base.TheVariants.{First, Second}
 use Rattle.refusals.specs.Checks.{unless, first}
-use Rattle.groups.specs.Monoids.{MonoidModel, MonoidLaws}
+use Rattle.groups.specs.Monoids.{MonoidModel, MonoidLaws, power}
 use Rattle.groups.specs.Groups.{GroupModel}
 use Rattle.groups.specs.Listed.{number_refusal}
-use Rattle.groups.specs.Torsion.{Torsion, elements}
 
 pub record AmbientModel (E : Type 0) : Type 0 where
   -- of the modulus
@@ -26,6 +27,15 @@ pub record AmbientModel (E : Type 0) : Type 0 where
   pub words : E → ℕ × ℕ
   -- the value that is written as two words, if there is one
   pub read : ℕ × ℕ → Option E
+
+-- `element` is membership and a neutral q-th power
+pub record Torsion {E : Type 0} (m : MonoidModel E) (q : ℕ) (element : E → Bool) : Type 0 where
+  pub inside : (x : E) → T (element x) → T (m.member x)
+  pub turns : (x : E) → T (element x) → power m x q ≡ m.one
+  pub back : (x : E) → T (m.member x) → power m x q ≡ m.one → T (element x)
+
+abbrev pub elements : {E : Type 0} → MonoidModel E → (E → Bool) → MonoidModel E
+elements m element = record { member = element; one = m.one; times = m.times }
 
 pub record AmbientLaws {E : Type 0} (a : AmbientModel E) : Type 0 where
   pub multiplies : (p : ℕ) → 1 < p → MonoidLaws (a.product p)

@@ -6,11 +6,10 @@ use Rattle.std.specs.Float.Ieee.Fits.{and_i, and_l, and_r}
 use Rattle.fields.specs.Residual.{same_sum}
 use Rattle.groups.specs.Monoids.{MonoidLaws, power}
 use Rattle.groups.specs.Groups.{GroupLaws}
-use Rattle.groups.specs.Ambients.{AmbientLaws}
+use Rattle.groups.specs.Ambients.{AmbientLaws, Torsion}
 use Rattle.groups.specs.PrimeLaws.{group_monoid, group_laws}
 use Rattle.groups.specs.Passing.{Quiet}
 use Rattle.groups.specs.Circles.{Pair, pair, circle_product, circle_modulo, is_one, circle_element, circle_elements, circle_model, circle_refusal, circle}
-use Rattle.groups.specs.Torsion.{Torsion}
 use Rattle.groups.specs.Quadratic.{low, high, low_assoc, high_assoc, low_comm, high_comm, same_low, same_high, negated}
 
 abbrev Inside : ℕ → Pair → Type 0

@@ -7,11 +7,10 @@ use Rattle.std.specs.Float.Ieee.Fits.{and_i, and_l, and_r}
 use Rattle.fields.specs.Residual.{mod_mul_mod, mul_mod_mod}
 use Rattle.groups.specs.Monoids.{MonoidLaws, power}
 use Rattle.groups.specs.Groups.{GroupLaws}
-use Rattle.groups.specs.Ambients.{AmbientLaws}
+use Rattle.groups.specs.Ambients.{AmbientLaws, Torsion}
 use Rattle.groups.specs.PrimeLaws.{group_monoid, group_laws}
 use Rattle.groups.specs.Residues.{residue, residues_modulo, residue_element, residue_elements, residue_model, residue_refusal, residues}
 use Rattle.groups.specs.declared.residue.Residue.{Residue}
-use Rattle.groups.specs.Torsion.{Torsion}
 use Rattle.groups.specs.Passing.{Quiet}
 
 pub residues_laws : (p : ℕ) → 1 < p → MonoidLaws (residues_modulo p)

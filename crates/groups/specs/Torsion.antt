@@ -4,6 +4,7 @@ use Rattle.std.proofs.Math.Path.{refl, sym, ap}
 use Rattle.std.proofs.Common.{ap₂, ◌∙◌}
 use Rattle.groups.specs.Monoids.{MonoidModel, MonoidLaws, power}
 use Rattle.groups.specs.Powers.{power_in}
+use Rattle.groups.specs.Ambients.{Torsion, elements}
 
 module _ {E : Type 0} {m : MonoidModel E} (laws : MonoidLaws m) where
   abbrev In : E → Type 0
@@ -29,15 +30,6 @@ module _ {E : Type 0} {m : MonoidModel E} (laws : MonoidLaws m) where
   power_times x y (suc k) hx hy =
       ap (m.times (m.times x y)) (power_times x y k hx hy)
       ∙ exchange x y (power m x k) (power m y k) hx hy (power_in laws x k hx) (power_in laws y k hy)
-
--- `element` is membership and a neutral q-th power
-pub record Torsion {E : Type 0} (m : MonoidModel E) (q : ℕ) (element : E → Bool) : Type 0 where
-  pub inside : (x : E) → T (element x) → T (m.member x)
-  pub turns : (x : E) → T (element x) → power m x q ≡ m.one
-  pub back : (x : E) → T (m.member x) → power m x q ≡ m.one → T (element x)
-
-abbrev pub elements : {E : Type 0} → MonoidModel E → (E → Bool) → MonoidModel E
-elements m element = record { member = element; one = m.one; times = m.times }
 
 module _ {E : Type 0} {m : MonoidModel E} (laws : MonoidLaws m) {q : ℕ} {element : E → Bool} (t : Torsion m q element) where
   same_power : (x : E) (k : ℕ) → power (elements m element) x k ≡ power m x k

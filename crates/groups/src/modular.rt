@@ -1,5 +1,5 @@
 // Values that are multiplied modulo p, and of which groups of prime order are made.
-ghost use Rattle.std.specs.Prelude.{◌≡◌};
+ghost use Rattle.std.specs.Prelude.{◌≡◌, T};
 ghost use Rattle.groups.specs.Ambients.{AmbientModel, AmbientLaws};
 
 use crate::listed::Parameters;
@@ -23,6 +23,14 @@ pub trait Modular: Copy {
     // Whether each of its numbers is below p.
     fn is_reduced(self, p: u32) -> bool
         ensures { result ≡ (ambient.product p).member self };
+
+    // Whether it may be an element of a group of this order and modulus, as far as no product is needed to tell.
+    fn may_be_element(self, parameters: Parameters) -> bool
+        ensures reduced { T result → T ((ambient.product parameters.p).member self) }
+        ensures every { T (ambient.element parameters.q parameters.p self) → T result }
+    {
+        self.is_reduced(parameters.p)
+    }
 
     // Whether it changes nothing as a factor.
     fn is_neutral(self) -> bool

@@ -34,7 +34,7 @@ fn is_element<E: Modular>(parameters: Parameters, x: E) -> bool
     ensures { result ≡ E.ambient.element parameters.q parameters.p x }
 {
     let product = E::product_modulo(parameters);
-    x.is_reduced(parameters.p) && power(&product, (), &x, parameters.q).is_neutral()
+    x.may_be_element(parameters) && power(&product, (), &x, parameters.q).is_neutral()
 }
 
 fn is_base<E: Modular>(parameters: Parameters, x: E) -> bool

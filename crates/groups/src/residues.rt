@@ -62,6 +62,11 @@ impl Modular for Residue {
         self.value() < p
     }
 
+    // No power of 0 is 1.
+    fn may_be_element(self, parameters: Parameters) -> bool {
+        self.value() != 0 && self.is_reduced(parameters.p)
+    }
+
     fn is_neutral(self) -> bool {
         self == Residue::new(1)
     }

@@ -83,12 +83,16 @@ impl<G: Group, F: Shape> LeafKinds for OneKind<G, F> {
     }
 
     fn is_image(&self, kind: u8, image: &Image) -> bool {
+        let group = &self.group;
         kind == 1
             && match F::form() {
-                Form::Single | Form::Mixed => image.1 == (0, 0),
-                Form::Twin => self.group.from_words(image.1).is_some(),
+                Form::Single | Form::Mixed => {
+                    image.1 == (0, 0) && group.from_words(image.0).is_some()
+                }
+                Form::Twin => {
+                    group.from_words(image.0).is_some() && group.from_words(image.1).is_some()
+                }
             }
-            && self.group.from_words(image.0).is_some()
     }
 
     fn image_of_key(&self, _kind: u8, key: Key) -> Image {
