@@ -6,13 +6,14 @@ ghost use Rattle.releases.specs.Entries.{leaves as leaf_entries};
 ghost use Rattle.releases.specs.Transcripts.{is_scalar, Shaped};
 ghost use Rattle.releases.specs.Checks.{Clear};
 ghost use Rattle.settings.specs.Rules.{rule_in};
+ghost use Rattle.settings.specs.Leaves.{leaves_of};
 ghost use Rattle.transcripts.specs.Transcripts.{transcript_in};
 ghost use Rattle.checking.specs.Checkings.{ScalarsChecked, ImagesChecked, KeysChecked, WordsChecked};
 
 use fields::Scalar;
 use kinds::{Image, Key, LeafKinds, is_key};
 use refusals::Refusal;
-use settings::Rule;
+use settings::{Leaf, Rule};
 use transcripts::Transcript;
 
 // Refuses the first challenge that is not below q.
@@ -31,12 +32,13 @@ fn check_challenges<S: LeafKinds>(set: &S, challenges: &[Scalar]) -> Result<(), 
 fn check_commitments<S: LeafKinds>(
     set: &S,
     rule: &Rule,
+    leaves: &[Leaf],
     commitments: &[Image],
 ) -> Result<(), Refusal>
-    requires { length commitments.now ≡ leaf_entries (rule_in rule.now) }
+    requires listed { leaves.now ≡ leaves_of (rule_in rule.now) }
+    requires long { (length leaves.now ≡ leaf_entries (rule_in rule.now)) × (length commitments.now ≡ leaf_entries (rule_in rule.now)) }
     ensures { ImagesChecked (S.LeafKinds.meaning set.now) (rule_in rule.now) commitments.now (told result) }
 {
-    let leaves = rule.leaves();
     // kept: commitments by the leaf's number; tried: the leaves zipped with the commitments and `position`, the proof did not close,
     // as the test calls the set of leaf kinds. So it is with responses and equations.
     for (number, leaf) in leaves.iter().enumerate() {
@@ -55,12 +57,17 @@ fn unfit_part<S: LeafKinds>(set: &S, response: Key) -> usize
 }
 
 // Refuses the first response that is no key of its leaf's kind.
-fn check_responses<S: LeafKinds>(set: &S, rule: &Rule, responses: &[Key]) -> Result<(), Refusal>
-    requires { length responses.now ≡ leaf_entries (rule_in rule.now) }
+fn check_responses<S: LeafKinds>(
+    set: &S,
+    rule: &Rule,
+    leaves: &[Leaf],
+    responses: &[Key],
+) -> Result<(), Refusal>
+    requires listed { leaves.now ≡ leaves_of (rule_in rule.now) }
+    requires long { (length leaves.now ≡ leaf_entries (rule_in rule.now)) × (length responses.now ≡ leaf_entries (rule_in rule.now)) }
     ensures { KeysChecked (S.LeafKinds.meaning set.now) (rule_in rule.now) responses.now (told result) }
 {
     let first = rule.len() + 4 * rule.leaf_count();
-    let leaves = rule.leaves();
     // kept: by the leaf's number, as above
     for (number, leaf) in leaves.iter().enumerate() {
         let response = responses[number];
@@ -84,6 +91,7 @@ pub fn check_words<S: LeafKinds>(
     ensures { WordsChecked (S.LeafKinds.meaning set.now) (rule_in rule.now) (transcript_in transcript.now) Clear (told result) }
 {
     check_challenges(set, transcript.challenges)?;
-    check_commitments(set, rule, transcript.commitments)?;
-    check_responses(set, rule, transcript.responses)
+    let leaves = rule.leaves();
+    check_commitments(set, rule, &leaves, transcript.commitments)?;
+    check_responses(set, rule, &leaves, transcript.responses)
 }

@@ -50,5 +50,5 @@ impl From<&[u8; LINE_BYTES]> for Line {
 pub fn find_line(lines: &[Line], number: u8) -> Option<Line>
     ensures { result ≡ line_of lines.now number }
 {
-    lines.iter().copied().find(|line| line.number == number)
+    lines.iter().find(|line| line.number == number).copied()
 }

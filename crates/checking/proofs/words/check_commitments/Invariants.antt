@@ -5,4 +5,4 @@ use Rattle.checking.proofs.Leaves.{blank}
 use Rattle.checking.proofs.words.check_commitments.Given as goal
 
 abbrev pub invariant-loop-number : goal.invariant-loop-number
-invariant-loop-number g l = (k : ℕ) → k < l.number → IsImage (g.S.LeafKinds.meaning l.set) (get_or l.leaf-items k blank).kind (get_or l.commitments k zeros)
+invariant-loop-number g l = (k : ℕ) → k < l.number → IsImage (g.S.LeafKinds.meaning l.set) (get_or l.leaves k blank).kind (get_or l.commitments k zeros)

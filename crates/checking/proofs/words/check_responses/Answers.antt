@@ -16,7 +16,7 @@ returns-then-not-is_key g c =
     let rs = c.args.responses.now in
     let R : Leaf → ℕ → Type 0 = λ x n. IsKey m x.kind (get_or rs n (scalar 0, scalar 0)) in
     let why : ℕ → Refusal = λ n. UnfitWord (length rule + 4 * leaves rule + 2 * n + cond (is_scalar m (get_or rs n (scalar 0, scalar 0)).0) 1 0) in
-    leaves_told rule R why _ (c.deref-leaf-items.ensures ∙ c.leaves-leaves.ensures.are) c.loop-number.number _
+    leaves_told rule R why _ c.requires.listed c.loop-number.number _
     c.loop-number-test.true c.loop-number.invariant (subst T (sym c.is_key.ensures ∙ c.if-not-is_key.true))
     (ap₂ (λ a b. Some (UnfitWord (a + 2 * c.loop-number.number + b))) (ap₂ (λ a b. a + 4 * b) c.len.ensures.is c.leaf_count.ensures.is) c.unfit_part.ensures)
 
@@ -27,5 +27,5 @@ returns g c =
     let rs = c.args.responses.now in
     let R : Leaf → ℕ → Type 0 = λ x n. IsKey m x.kind (get_or rs n (scalar 0, scalar 0)) in
     let why : ℕ → Refusal = λ n. UnfitWord (length rule + 4 * leaves rule + 2 * n + cond (is_scalar m (get_or rs n (scalar 0, scalar 0)).0) 1 0) in
-    leaves_clear rule R why _ (c.deref-leaf-items.ensures ∙ c.leaves-leaves.ensures.are) c.loop-number.number
+    leaves_clear rule R why _ c.requires.listed c.loop-number.number
     c.loop-number-test.false c.loop-number.invariant
