@@ -41,6 +41,7 @@ impl Table {
     }
 
     // The entry at a position, or none past the last.
+    #[tactic(auto, using(crate::proofs::Lists::looked_up))]
     pub fn entry(&self, position: usize) -> Option<Entry>
         ensures { MatchOption result (length (rows_in self.now) ≤ position) (λ e. get_elem? (rows_in self.now) position ≡ some (row_of e)) }
     {

@@ -1,7 +1,10 @@
 // What a command on gates is answered.
 // kept: casts by `as`: nothing is lost, as the check proves; behind a `From` a number is a new one to the proof, and a `TryFrom` has a refusal that never comes
-ghost use Rattle.std.specs.Prelude.{◌≡◌, ◌<◌, ◌≤◌, IfOk};
-ghost use Rattle.fields.specs.Scalars.{scalar};
+ghost use Rattle.std.specs.Prelude.{◌≡◌, ◌<◌, ◌≤◌, T, length, IfOk};
+ghost use Rattle.fields.specs.Scalars.{scalar, scalars_model};
+ghost use Rattle.polynomials.specs.Polynomials.{Members};
+ghost use Rattle.splits.specs.Gates.{Balanced, Agree};
+ghost use Rattle.splits.specs.Marks.{missing};
 ghost use Rattle.bounded.specs.Rows.{items};
 ghost use Rattle.script_gates.specs.GateReplies.{scalar_at, numbers_of, Takes, Fills, Checked, Answers, order_of, ComesTo, Says};
 
@@ -59,18 +62,29 @@ fn challenges(scalars: &Scalars, gate: &Gate) -> Result<(Scalar, Children), Faul
     Ok((own, children))
 }
 
+// Splits an own challenge over children: keeps the known ones and writes the others.
+fn split_children(scalars: &Scalars, own: Scalar, known: &[bool], taken: &Children) -> Children
+    requires sizes { length known.now ≡ length (items taken.now) }
+    requires elements { let m = scalars_model scalars.now.q in (T (m.member own)) × (Members m (items taken.now)) }
+    ensures long { length (items result) ≡ length (items taken.now) }
+    ensures balanced { Balanced (scalars_model scalars.now.q) (missing known.now) own (items result) }
+    ensures kept { Agree (scalars_model scalars.now.q) known.now (items result) (items taken.now) }
+{
+    // kept: a row lends no slice to write to, so the children are split in an array
+    let mut slots = [own; 8];
+    let children = &mut slots[..taken.len()];
+    children.copy_from_slice(taken);
+    split(scalars, own, known, children);
+    Row::of(own, children)
+}
+
 // Splits at a gate: keeps the known children and writes the others.
 fn filled(scalars: &Scalars, gate: &Gate) -> Result<Children, Fault>
     ensures { IfOk result (λ x. Fills scalars.now.q gate.now (items x)) }
 {
     let (own, taken) = challenges(scalars, gate)?;
     let known = gate.children.map(false, |child| child.is_some());
-    // kept: a row lends no slice to write to, so the children are split in an array
-    let mut slots = [own; 8];
-    let children = &mut slots[..taken.len()];
-    children.copy_from_slice(&taken);
-    split(scalars, own, &known, children);
-    Ok(Row::of(own, children))
+    Ok(split_children(scalars, own, &known, &taken))
 }
 
 // Whether a gate balances that wants so many children.

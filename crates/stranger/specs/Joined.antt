@@ -1,6 +1,6 @@
 -- What is asked of joins with the multiples.
 --   multiples_of s      what the interface answers at a value of the type Multiples
---   one_kind_of s       the same at one kind over a residue group
+--   single_of s         the same at one kind over a residue group
 --   OfSum m n v w x    where v and w are keys of kind n, x is the image of their sum
 use Rattle.std.specs.Prelude.{◌≡◌, ℕ, T}
 use Rattle.kinds.specs.Kinds.{Key, KindModel, is_key, add_keys}
